@@ -1,0 +1,3 @@
+pub mod ReservedLaws
+pub mod SpellingLaws
+pub mod TokenLaws

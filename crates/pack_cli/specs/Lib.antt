@@ -1,0 +1,10 @@
+pub mod Answers
+pub mod Body
+pub mod Build
+pub mod Calls
+pub mod Numbers
+pub mod Output
+pub mod Round
+pub mod Run
+pub mod Runtime
+pub mod Scanning

@@ -1,0 +1,16 @@
+//! The command `build`, over any files, store, source and sink.
+#![tactic(auto)]
+
+mod calls;
+mod emit;
+mod faults;
+mod look;
+mod places;
+mod print;
+mod rounds;
+mod runtime;
+mod status;
+mod top;
+
+pub use status::Status;
+pub use top::{Command, run};

@@ -1,0 +1,4 @@
+start("page", 1);
+	show ( $title,  'Hello, world' );
+
+log();log("done", 42);

@@ -1,0 +1,10 @@
+pub mod Breaks
+pub mod Columns
+pub mod Covers
+pub mod Held
+pub mod Joins
+pub mod Pieces
+pub mod Places
+pub mod Readings
+pub mod SegmentPlaces
+pub mod Segments

@@ -1,0 +1,11 @@
+pub mod Calls
+pub mod Causes
+pub mod Meanings
+pub mod Memory
+pub mod Outside
+pub mod PathFaults
+pub mod PathScan
+pub mod Paths
+pub mod Places
+pub mod Starts
+pub mod Trees

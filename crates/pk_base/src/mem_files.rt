@@ -1,0 +1,211 @@
+// Files in memory, whose reads fail at the calls whose numbers they are given.
+ghost use Rattle.std.specs.List.{All};
+ghost use Rattle.std.specs.Prelude.{◌≡◌, ◌<◌, ℕ, List, [], Some, None, true, length, vec_len, map, slice_index_or, option_copied, IfOk, OnOk, IsSome, if◌then◌else◌};
+ghost use Rattle.pk_base.specs.Memory.{held_in, AreKnown};
+ghost use Rattle.pk_base.specs.Starts.{first_of};
+ghost use Rattle.pk_base.specs.Outside.{covers as covers_path, is_under as is_under_folder};
+ghost use Rattle.pk_base.specs.Places.{place_of};
+ghost use Rattle.std.specs.Str.{bytes_eq};
+ghost use Rattle.pk_base.specs.Trees.{held_of};
+
+use crate::failures::Failures;
+use crate::kept::keep_ask;
+use crate::{Bytes, Files, Interner, Path, Read, ReadFail, Tree};
+use std::alloc::{AllocError, Global};
+use std::collections::VecDeque;
+
+/// Files in memory. The paths of all trees have numbers, and each tree is a column of what stands at each number.
+#[derive(Drop)]
+pub struct MemFiles {
+    alloc: Global,
+    paths: Interner,
+    present: Vec<Option<Bytes>>,
+    coming: VecDeque<Vec<Option<Bytes>>>,
+    asks: Vec<Bytes>,
+    failures: Failures,
+    ghost present_len: { vec_len present ≡ length paths },
+    ghost coming_len: { All (λ column. vec_len column ≡ length paths) coming.items },
+}
+
+// Gives each path a number.
+fn list_paths(paths: &mut Interner, files: &[(Path, Bytes)]) -> Result<(), AllocError>
+    ensures kept { (q : List ℕ) → IsSome (place_of paths.old q) → IsSome (place_of paths.new q) }
+    ensures known { OnOk result (AreKnown paths.new files.now) }
+{
+    for file in files {
+        paths.intern(file.0.text().as_bytes())?;
+    }
+    Ok(())
+}
+
+// A column in which nothing stands.
+fn empty_column(alloc: Global, len: usize) -> Result<Vec<Option<Bytes>>, AllocError>
+    ensures len { IfOk result (λ column. vec_len column ≡ len) }
+    ensures empty { IfOk result (λ column. (n : ℕ) → slice_index_or column.items n None ≡ None) }
+{
+    let mut column = Vec::with_capacity(alloc, len)?;
+    for _place in 0..len {
+        column.push(None)?;
+    }
+    Ok(column)
+}
+
+// Puts bytes at the place of a path.
+fn fill(paths: &Interner, column: &mut Vec<Option<Bytes>>, path: &[u8], bytes: Bytes)
+    requires len { vec_len column.old ≡ length paths.now }
+    requires known { IsSome (place_of paths.now path.now) }
+    ensures len { vec_len column.new ≡ length paths.now }
+    ensures held { (q : List ℕ) → held_in paths.now column.new.items q ≡ (if bytes_eq q path.now then Some bytes else held_in paths.now column.old.items q) }
+{
+    if let Some(n) = paths.find(path) {
+        column[n as usize] = Some(bytes);
+    }
+}
+
+// The column of a tree.
+fn column_of(alloc: Global, paths: &Interner, tree: Tree) -> Result<Vec<Option<Bytes>>, AllocError>
+    requires { AreKnown paths.now tree.files }
+    ensures len { IfOk result (λ column. vec_len column ≡ length paths.now) }
+    ensures held { IfOk result (λ column. held_in paths.now column.items ≡ held_of tree) }
+{
+    let mut column = empty_column(alloc, paths.len())?;
+    let mut files = tree.files.into_vec();
+    while let Some((path, bytes)) = files.pop() {
+        fill(paths, &mut column, path.text().as_bytes(), bytes);
+    }
+    Ok(column)
+}
+
+// Gives each path of all trees a number.
+fn list_all(alloc: Global, trees: &[Tree]) -> Result<Interner, AllocError>
+    ensures { IfOk result (λ paths. All (λ tree. AreKnown paths tree.files) trees.now) }
+{
+    let mut paths = Interner::new(alloc);
+    for tree in trees {
+        list_paths(&mut paths, tree.files.as_slice())?;
+    }
+    Ok(paths)
+}
+
+// The columns of all trees.
+fn columns_of(
+    alloc: Global,
+    paths: &Interner,
+    mut trees: Vec<Tree>,
+) -> Result<VecDeque<Vec<Option<Bytes>>>, AllocError>
+    requires { All (λ tree. AreKnown paths.now tree.files) trees.items }
+    ensures len { IfOk result (λ columns. All (λ column. vec_len column ≡ length paths.now) columns.items) }
+    ensures held { IfOk result (λ columns. map (λ column. held_in paths.now column.items) columns.items ≡ map held_of trees.items) }
+{
+    let mut columns = VecDeque::new(alloc);
+    while let Some(tree) = trees.pop() {
+        columns.push_front(column_of(alloc, paths, tree)?)?;
+    }
+    Ok(columns)
+}
+
+// Whether a folder is the path or stands above it.
+fn is_under(folder: &[u8], path: &[u8]) -> bool
+    ensures { result ≡ is_under_folder folder.now path.now }
+{
+    if folder.is_empty() || folder == path {
+        return true;
+    }
+    if path.len() <= folder.len() {
+        return false;
+    }
+    path[folder.len()] == b'/' && path.starts_with(folder)
+}
+
+fn covers(folders: &[Path], path: &[u8]) -> bool
+    ensures { result ≡ covers_path folders.now path.now }
+{
+    for folder in folders {
+        if is_under(folder.text().as_bytes(), path) {
+            return true;
+        }
+    }
+    false
+}
+
+// Takes from the next column what stands at the listed paths.
+fn take_covered(
+    paths: &Interner,
+    listed: &[Path],
+    mut next: Vec<Option<Bytes>>,
+    present: &mut Vec<Option<Bytes>>,
+)
+    requires present_len { vec_len present.old ≡ length paths.now }
+    requires next_len { vec_len next ≡ length paths.now }
+    ensures len { vec_len present.new ≡ length paths.now }
+    ensures held { held_in paths.now present.new.items ≡ (λ path. if covers_path listed.now path then held_in paths.now next.items path else held_in paths.now present.old.items path) }
+{
+    for n in 0..paths.len() {
+        if covers(listed, paths.text_of(n as u32)) {
+            present[n] = next[n].take();
+        }
+    }
+}
+
+impl MemFiles {
+    /// The first of `trees` is there, or the empty tree, and the others are to come. The calls of `read`, counted
+    /// from 0, whose numbers stand in `fails` fail.
+    pub fn new(alloc: Global, trees: Vec<Tree>, fails: Vec<u64>) -> Result<Self, AllocError>
+        ensures { IfOk result (λ m. ⟦<MemFiles as Files>⟧.means m ≡ first_of (map held_of trees.items)) }
+    {
+        let paths = list_all(alloc, trees.as_slice())?;
+        let mut coming = columns_of(alloc, &paths, trees)?;
+        let present = match coming.pop_front() {
+            Some(column) => column,
+            None => empty_column(alloc, paths.len())?,
+        };
+        Ok(MemFiles {
+            alloc,
+            paths,
+            present,
+            coming,
+            asks: Vec::new(alloc),
+            failures: Failures::at(fails),
+        })
+    }
+
+    pub fn asks(&self) -> &[Bytes]
+        ensures { result.now ≡ (⟦<MemFiles as Files>⟧.means self.now).asks }
+    {
+        self.asks.as_slice()
+    }
+
+    // What stands at a path.
+    fn find(&self, path: &[u8]) -> Option<&Bytes>
+        ensures { option_copied result ≡ (⟦<MemFiles as Files>⟧.means self.now).tree path.now }
+    {
+        match self.paths.find(path) {
+            Some(n) => self.present[n as usize].as_ref(),
+            None => None,
+        }
+    }
+}
+
+impl Files for MemFiles {
+    ghost means = { λ m. record { told = true; tree = held_in m.paths m.present.items; coming = map (λ column. held_in m.paths column.items) m.coming.items; asks = m.asks.items; faults = m.failures.count } };
+
+    fn read(&mut self, path: &Path, limit: u32) -> Result<Read, ReadFail> {
+        let fails = self.failures.is_due();
+        keep_ask(self.alloc, &mut self.asks, path)?;
+        if fails {
+            self.failures.fault();
+            return Err(ReadFail::Failed);
+        }
+        match self.find(path.text().as_bytes()) {
+            None => Ok(Read::Absent),
+            Some(bytes) if bytes.len() > limit as usize => Ok(Read::Longer),
+            Some(bytes) => Ok(Read::Bytes(Bytes::copy_of(self.alloc, bytes.as_slice())?)),
+        }
+    }
+
+    fn turn(&mut self, listed: &Vec<Path>) {
+        if let Some(next) = self.coming.pop_front() {
+            take_covered(&self.paths, listed.as_slice(), next, &mut self.present);
+        }
+    }
+}
