@@ -21,6 +21,7 @@ use Rattle.pack_cli.specs.declared.status.Status.TheVariants.{Done, Refused, Usa
 pub record Rounded (answer : Result (List ℕ) RoundFault) (files files_after : FilesMeaning) (store store_after : StoreMeaning) : Type 0 where
   pub asks : AsksFiles answer files files_after
   pub rounds : Rounds answer files files_after store store_after
+  pub told : store_after.told ≡ store.told
   pub writes : Counts (is_write_fault answer) store.faults store_after.faults
 
 abbrev moment : FilesMeaning → StoreMeaning → SourceMeaning → SinkMeaning → ℕ → Moment
@@ -28,20 +29,29 @@ moment files store source sink steps = record { files = files; store = store; so
 
 -- a build has met its promise, once the headline and the cause of its status are there
 meets : (answer : Result (List ℕ) RoundFault) (status : Status) (files files_after : FilesMeaning) (store store_after : StoreMeaning) (source : SourceMeaning) (sink sink_after : SinkMeaning) (steps : ℕ)
-    → AsksFiles answer files files_after
+    → Rounded answer files files_after store store_after → sink_after.told ≡ sink.told
     → (IsTrue files.told → IsCalm (moment files store source sink steps) (moment files_after store_after source sink_after steps) → status ≢ NoMemory → DoesBuild files.tree status (moment files store source sink steps) (moment files_after store_after source sink_after steps))
     → HasCause status (moment files store source sink steps) (moment files_after store_after source sink_after steps)
     → BuildMeets status (moment files store source sink steps) (moment files_after store_after source sink_after steps)
-meets answer status files files_after store store_after source sink sink_after steps asks outcome cause =
-    record { outcome = outcome; cause = cause; asks = asks.asks; tree = asks.tree; coming = asks.coming; source = refl; steps = refl }
+meets answer status files files_after store store_after source sink sink_after steps r told outcome cause =
+    record {
+      outcome = outcome;
+      cause = cause;
+      asks = r.asks.asks;
+      told = record { files = r.asks.told; store = r.told; source = refl; sink = told };
+      tree = r.asks.tree;
+      coming = r.asks.coming;
+      source = refl;
+      steps = refl;
+    }
 
 -- the lines could not be printed
 cut_short : (answer : Result (List ℕ) RoundFault) (files files_after : FilesMeaning) (store store_after : StoreMeaning) (source : SourceMeaning) (sink sink_after : SinkMeaning) (steps : ℕ)
-    → Rounded answer files files_after store store_after → Rose sink.faults sink_after.faults → (IsTrue sink.told → AddsPrefix sink.held sink_after.held (lines_of answer))
+    → Rounded answer files files_after store store_after → sink_after.told ≡ sink.told → Rose sink.faults sink_after.faults → (IsTrue sink.told → AddsPrefix sink.held sink_after.held (lines_of answer))
     → BuildMeets SinkFault (moment files store source sink steps) (moment files_after store_after source sink_after steps)
-cut_short answer files files_after store store_after source sink sink_after steps r rose added =
-    meets answer SinkFault files files_after store store_after source sink sink_after steps r.asks
-    (λ told calm memory. absurd (calm.puts rose))
+cut_short answer files files_after store store_after source sink sink_after steps r told rose added =
+    meets answer SinkFault files files_after store store_after source sink sink_after steps r told
+    (λ h calm memory. absurd (calm.puts rose))
     (record { rose = rose; answer = answer; files = r.asks; round = r.rounds; writes = r.writes; part = added })
 
 pub done_meets : (lines : List ℕ) (status : Status) (files files_after : FilesMeaning) (store store_after : StoreMeaning) (source : SourceMeaning) (sink sink_after : SinkMeaning) (steps : ℕ)
@@ -50,7 +60,7 @@ pub done_meets : (lines : List ℕ) (status : Status) (files files_after : Files
 done_meets lines _ files files_after store store_after source _ _ steps r (whole sink sink_after told same held) =
     let b = r.rounds in
     let printed : IsTrue sink.told → sink_after.held ≡ sink.held ++ built_lines b.body = λ h. held h ∙ ap (λ l. sink.held ++ l) b.lines_are in
-    meets (Ok lines) Done files files_after store store_after source sink sink_after steps r.asks
+    meets (Ok lines) Done files files_after store store_after source sink sink_after steps r told
     (λ h calm memory. record {
       outcome = record { status = Done; printed = built_lines b.body; output = output_of b.body };
       of_tree = leaves b.body (b.of_tree h);
@@ -66,13 +76,13 @@ done_meets lines _ files files_after store store_after source _ _ steps r (whole
       printed = printed;
     })
 done_meets lines _ files files_after store store_after source _ _ steps r (part sink sink_after told rose added) =
-    cut_short (Ok lines) files files_after store store_after source sink sink_after steps r rose added
+    cut_short (Ok lines) files files_after store store_after source sink sink_after steps r told rose added
 
 pub refused_meets : (fault : BuildFault) (status : Status) (files files_after : FilesMeaning) (store store_after : StoreMeaning) (source : SourceMeaning) (sink sink_after : SinkMeaning) (steps : ℕ)
     → Rounded (Err (round.Refused fault)) files files_after store store_after → PutsLines (fault_line (round.Refused fault)) Refused status sink sink_after
     → BuildMeets status (moment files store source sink steps) (moment files_after store_after source sink_after steps)
 refused_meets fault _ files files_after store store_after source _ _ steps r (whole sink sink_after told same held) =
-    meets (Err (round.Refused fault)) Refused files files_after store store_after source sink sink_after steps r.asks
+    meets (Err (round.Refused fault)) Refused files files_after store store_after source sink sink_after steps r told
     (λ h calm memory. record {
       outcome = record { status = Refused; printed = fault_line (round.Refused fault); output = [] };
       of_tree = refuses fault (r.rounds.0 h);
@@ -88,29 +98,29 @@ refused_meets fault _ files files_after store store_after source _ _ steps r (wh
       printed = held;
     })
 refused_meets fault _ files files_after store store_after source _ _ steps r (part sink sink_after told rose added) =
-    cut_short (Err (round.Refused fault)) files files_after store store_after source sink sink_after steps r rose added
+    cut_short (Err (round.Refused fault)) files files_after store store_after source sink sink_after steps r told rose added
 
 pub read_fault_meets : (status : Status) (files files_after : FilesMeaning) (store store_after : StoreMeaning) (source : SourceMeaning) (sink sink_after : SinkMeaning) (steps : ℕ)
     → Rounded (Err round.ReadFault) files files_after store store_after → PutsLines (codes "fault read\n") ReadFault status sink sink_after
     → BuildMeets status (moment files store source sink steps) (moment files_after store_after source sink_after steps)
 read_fault_meets _ files files_after store store_after source _ _ steps r (whole sink sink_after told same held) =
     let rose = r.asks.faults.rose refl in
-    meets (Err round.ReadFault) ReadFault files files_after store store_after source sink sink_after steps r.asks
+    meets (Err round.ReadFault) ReadFault files files_after store store_after source sink sink_after steps r told
     (λ h calm memory. absurd (calm.reads rose))
     (record { rose = rose; writes = r.writes.kept refl; puts = same; store = r.rounds; printed = held })
 read_fault_meets _ files files_after store store_after source _ _ steps r (part sink sink_after told rose added) =
-    cut_short (Err round.ReadFault) files files_after store store_after source sink sink_after steps r rose added
+    cut_short (Err round.ReadFault) files files_after store store_after source sink sink_after steps r told rose added
 
 pub write_fault_meets : (status : Status) (files files_after : FilesMeaning) (store store_after : StoreMeaning) (source : SourceMeaning) (sink sink_after : SinkMeaning) (steps : ℕ)
     → Rounded (Err round.WriteFault) files files_after store store_after → PutsLines (codes "fault write\n") WriteFault status sink sink_after
     → BuildMeets status (moment files store source sink steps) (moment files_after store_after source sink_after steps)
 write_fault_meets _ files files_after store store_after source _ _ steps r (whole sink sink_after told same held) =
     let rose = r.writes.rose refl in
-    meets (Err round.WriteFault) WriteFault files files_after store store_after source sink sink_after steps r.asks
+    meets (Err round.WriteFault) WriteFault files files_after store store_after source sink sink_after steps r told
     (λ h calm memory. absurd (calm.writes rose))
-    (record { rose = rose; reads = r.asks.faults.kept refl; puts = same; store = r.rounds; printed = held })
+    (record { rose = rose; reads = r.asks.faults.kept refl; puts = same; round = r.rounds; printed = held })
 write_fault_meets _ files files_after store store_after source _ _ steps r (part sink sink_after told rose added) =
-    cut_short (Err round.WriteFault) files files_after store store_after source sink sink_after steps r rose added
+    cut_short (Err round.WriteFault) files files_after store store_after source sink sink_after steps r told rose added
 
 -- words that are no command
 pub usage_meets : (command : Option Command) (status : Status) (files : FilesMeaning) (store : StoreMeaning) (source : SourceMeaning) (sink sink_after : SinkMeaning) (steps : ℕ)

@@ -79,6 +79,13 @@ pub record IsBuilt (lines : List ℕ) (files files_after : FilesMeaning) (store 
   pub lines_are : lines ≡ built_lines body
   pub store_holds : HoldsOutput body store store_after
 
+-- a round whose put failed: of the told tree, with its asks
+pub record IsUnwritten (files files_after : FilesMeaning) (store store_after : StoreMeaning) : Type 0 where
+  pub body : List ℕ
+  pub of_tree : IsTrue files.told → HasBody files.tree body
+  pub asked : IsTrue files.told → files_after.asks ≡ files.asks ++ asked_of files.tree
+  pub store_lost : HasLostPut store store_after
+
 -- what a round answers and leaves, by its answer
 abbrev pub Rounds : Result (List ℕ) RoundFault → FilesMeaning → FilesMeaning → StoreMeaning → StoreMeaning → Type 0
 Rounds (Ok lines) files files_after store store_after = IsBuilt lines files files_after store store_after
@@ -87,5 +94,5 @@ Rounds (Err (Refused fault)) files files_after store store_after =
     × (IsTrue files.told → files_after.asks ≡ files.asks ++ asked_of files.tree)
     × IsUntouched store store_after
 Rounds (Err ReadFault) files files_after store store_after = IsUntouched store store_after
-Rounds (Err WriteFault) files files_after store store_after = HasLostPut store store_after
+Rounds (Err WriteFault) files files_after store store_after = IsUnwritten files files_after store store_after
 Rounds (Err NoMemory) files files_after store store_after = IsUntouched store store_after

@@ -8,7 +8,7 @@ use Rattle.pk_base.specs.Outside.{AddsPrefix}
 use Rattle.pack_cli.specs.Answers.{fault_line, is_write_fault, lines_of}
 use Rattle.pack_cli.specs.Build.{HasBody, IsFirstFault, asked_of}
 use Rattle.pack_cli.specs.Output.{Files, output_of, put_calls, put_all, built_lines}
-use Rattle.pack_cli.specs.Round.{AsksFiles, AsksOnce, IsUntouched, HoldsOutput, HasLostPut, Rounds}
+use Rattle.pack_cli.specs.Round.{AsksFiles, AsksOnce, IsUntouched, HoldsOutput, IsUnwritten, Rounds}
 use Rattle.pack_cli.specs.declared.faults.BuildFault.{BuildFault}
 use Rattle.pack_cli.specs.declared.faults.RoundFault.{RoundFault}
 use Rattle.pack_cli.specs.declared.faults.RoundFault.TheVariants as round
@@ -43,6 +43,13 @@ pub record IsQuiet (old new : Moment) : Type 0 where
   pub writes : new.store.faults ≡ old.store.faults
   pub takes : new.source.faults ≡ old.source.faults
   pub puts : new.sink.faults ≡ old.sink.faults
+
+-- each object tells what it told
+pub record TellSame (old new : Moment) : Type 0 where
+  pub files : new.files.told ≡ old.files.told
+  pub store : new.store.told ≡ old.store.told
+  pub source : new.source.told ≡ old.source.told
+  pub sink : new.sink.told ≡ old.sink.told
 
 -- what a command does to a tree
 pub record Outcome : Type 0 where
@@ -99,12 +106,12 @@ pub record HasReadFault (old new : Moment) : Type 0 where
   pub store : IsUntouched old.store new.store
   pub printed : Prints (codes "fault read\n") old new
 
--- WriteFault comes only where the count of the store's faults rose.
+-- WriteFault comes only where the count of the store's faults rose. The tree has no fault, and only the name of the put may differ.
 pub record HasWriteFault (old new : Moment) : Type 0 where
   pub rose : Rose old.store.faults new.store.faults
   pub reads : new.files.faults ≡ old.files.faults
   pub puts : new.sink.faults ≡ old.sink.faults
-  pub store : HasLostPut old.store new.store
+  pub round : IsUnwritten old.files new.files old.store new.store
   pub printed : Prints (codes "fault write\n") old new
 
 -- SinkFault comes only where the count of the sink's faults rose. A first part of the lines of the round that was made is printed.
@@ -140,6 +147,7 @@ pub record BuildMeets (status : Status) (old new : Moment) : Type 0 where
   pub cause : HasCause status old new
   pub asks : AsksOnce old.files.asks new.files.asks
   -- what stays in any case
+  pub told : TellSame old new
   pub tree : new.files.tree ≡ old.files.tree
   pub coming : new.files.coming ≡ old.files.coming
   pub source : new.source ≡ old.source
