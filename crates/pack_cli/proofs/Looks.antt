@@ -9,7 +9,7 @@ use Rattle.pk_base.specs.declared.outside.ReadFail.{ReadFail}
 use Rattle.pk_base.specs.declared.outside.ReadFail.TheVariants.{Failed, NoMemory}
 use Rattle.pk_base.specs.declared.outside.Read.TheVariants.{Absent, Bytes, Longer}
 use Rattle.pack_cli.specs.Body.{IsBody}
-use Rattle.pack_cli.specs.Build.{seen, first_there, first_of, settings_fault, entry_fault, not_built, file_fault, entry_text, bytes_of, candidate_fault, entry_asks, asked_of, HasBody, IsFirstFault, pack_json, index_js, other_candidates, manifests}
+use Rattle.pack_cli.specs.Build.{seen, first_there, first_of, settings_fault, entry_fault, not_built, file_fault, entry_text, bytes_of, candidate_fault, entry_asks, asked_of, IsFirstFault, pack_json, index_js, other_candidates, manifests}
 use Rattle.pack_cli.specs.Build.IsFirstFault.{of_file, of_text}
 use Rattle.pack_cli.specs.Round.{AsksFirst, AsksEntry, AsksBuild, AsksOnce}
 use Rattle.pack_cli.specs.declared.faults.BuildFault.TheVariants.{NotBuilt, TooLarge}
@@ -51,12 +51,6 @@ text_is t text f = ap bytes_of f
 pub by_text : (t : Held) (text : List ℕ) → seen t pack_json ≡ Absent → seen t index_js ≡ Bytes text → first_there t manifests ≡ None → ((body : List ℕ) → IsBody text body → ⊥) → IsFirstFault t (NotBuilt index_js)
 by_text t text e f g h = of_text (seen_fault t Absent (Bytes text) None e f g) (λ body b. h body (subst (λ z. IsBody z body) (text_is t text f) b))
 
-pub has_body : (t : Held) (text body : List ℕ) → seen t pack_json ≡ Absent → seen t index_js ≡ Bytes text → first_there t manifests ≡ None → IsBody text body → HasBody t body
-has_body t text body e f g b = record {
-  no_fault = seen_fault t Absent (Bytes text) None e f g;
-  is_body = subst (λ z. IsBody z body) (sym (text_is t text f)) b;
-}
-
 -- no path was asked, one was, or one and then some
 pub asks_none : (old paths : List (List ℕ)) → AsksFirst old old paths
 asks_none old paths = record { count = 0; is = sym (append-nil old) }
@@ -67,10 +61,6 @@ asks_one old new path paths e = record { count = 1; is = e }
 pub asks_more : (old mid new : List (List ℕ)) (path : List ℕ) (paths : List (List ℕ)) → mid ≡ old ++ path ∷ [] → AsksFirst mid new paths → AsksFirst old new (path ∷ paths)
 asks_more old mid new path paths e h = record { count = suc h.count; is = h.is ∙ ap (λ xs. xs ++ take h.count paths) e ∙ append_assoc old (path ∷ []) (take h.count paths) }
 
--- behind one path that was asked, these were
-pub asked_behind : (old mid new : List (List ℕ)) (path : List ℕ) (paths : List (List ℕ)) → mid ≡ old ++ path ∷ [] → new ≡ mid ++ paths → new ≡ old ++ (path ∷ paths)
-asked_behind old mid new path paths e f = f ∙ ap (λ xs. xs ++ paths) e ∙ append_assoc old (path ∷ []) paths
-
 -- the same for the paths of a build: where the settings or the entry could not be read
 tried : (old mid : List (List ℕ)) (path : List ℕ) (paths : List (List ℕ)) (fail : ReadFail) → Asked {T = Read} old mid path (Err fail) → AsksFirst old mid (path ∷ paths)
 tried old mid path paths Failed h = asks_one old mid path paths h
@@ -79,9 +69,6 @@ tried old mid path paths NoMemory (inr h) = asks_one old mid path paths h
 
 pub entry_tried : (old mid : List (List ℕ)) (path : List ℕ) (fail : ReadFail) → path ≡ index_js → Asked {T = Read} old mid path (Err fail) → AsksEntry old mid
 entry_tried old mid path fail e h = inl (tried old mid index_js other_candidates fail (subst (λ p. Asked {T = Read} old mid p (Err fail)) e h))
-
-pub entry_alone : (old mid : List (List ℕ)) (path : List ℕ) → path ≡ index_js → mid ≡ old ++ path ∷ [] → AsksEntry old mid
-entry_alone old mid path e h = inl (asks_one old mid index_js other_candidates (h ∙ ap (λ p. old ++ p ∷ []) e))
 
 pub entry_absent : (old mid new : List (List ℕ)) (path : List ℕ) → path ≡ index_js → mid ≡ old ++ path ∷ [] → AsksFirst mid new other_candidates → AsksEntry old new
 entry_absent old mid new path e h more = inl (asks_more old mid new index_js other_candidates (h ∙ ap (λ p. old ++ p ∷ []) e) more)
@@ -101,9 +88,6 @@ settings_more old mid new h (inr more) = inr (asks_more old mid new pack_json (i
 
 pub settings_absent : (old mid new : List (List ℕ)) (path : List ℕ) → path ≡ pack_json → mid ≡ old ++ path ∷ [] → AsksEntry mid new → AsksBuild old new
 settings_absent old mid new path e h more = settings_more old mid new (h ∙ ap (λ p. old ++ p ∷ []) e) more
-
-pub nothing_asked : (old : List (List ℕ)) → AsksBuild old old
-nothing_asked old = inl (asks_none old (pack_json ∷ index_js ∷ other_candidates))
 
 -- the paths of a build are distinct, and so is each first part of them
 distinct_take : (paths : List (List ℕ)) (count : ℕ) → IsDistinct bytes_eq paths → IsDistinct bytes_eq (take count paths)

@@ -1,5 +1,5 @@
 -- How reading token by token comes to the body of a text.
-use Rattle.std.proofs.Common.{◌≡◌, ◌≢◌, ℕ, ◌<◌, ◌≤◌, true, false, List, [], ◌∷◌, ◌++◌, length, None, Some, Ok, Err, refl, sym, ap, subst, ◌∙◌, append_assoc, append-nil, arith}
+use Rattle.std.proofs.Common.{◌≡◌, ◌≢◌, ℕ, ◌<◌, ◌≤◌, true, false, List, [], ◌∷◌, ◌++◌, length, None, Some, Ok, Err, refl, sym, ap, subst, ◌∙◌, append_assoc, arith}
 use Rattle.std.proofs.lemmas.Grind.{common_steps}
 use Rattle.es_tree.specs.declared.tokens.Token.{Token}
 use Rattle.es_tree.specs.declared.tokens.TokenKind.TheVariants.{End}
@@ -90,14 +90,6 @@ goes_on text done new at token place next same e not_end step some is =
         joined = h.joined ∙ sym (joins done text at token h.tokens some);
       });
     })
-
-added_none : (done text : List ℕ) (at : ℕ) → done ≡ done ++ added done text at []
-added_none [] text at = refl
-added_none (c ∷ done) text at = sym (append-nil (c ∷ done))
-
--- between two calls the text may end
-pub ends_here : (text done : List ℕ) (at : ℕ) (token : Token) → SameBodies text at Between done → token_at text at Operand ≡ Ok token → token.kind ≡ End → IsBody text done
-ends_here text done at token same e is_end = same.back done (record { tokens = []; read = (token, e, is_end); accepted = refl; joined = added_none done text at })
 
 -- elsewhere it may not
 no_end : (text : List ℕ) (at : ℕ) (token : Token) (place : Place) (tokens : List Token) → token_at text at Operand ≡ Ok token → token.kind ≡ End → is_between place ≡ false

@@ -8,8 +8,6 @@ use Rattle.pack_cli.specs.declared.faults.LookFault.{LookFault}
 use Rattle.pack_cli.specs.declared.faults.LookFault.TheVariants as look
 use Rattle.pack_cli.specs.declared.faults.RoundFault.{RoundFault}
 use Rattle.pack_cli.specs.declared.faults.RoundFault.TheVariants.{Refused, ReadFault, WriteFault, NoMemory}
-use Rattle.pack_cli.specs.declared.status.Status.{Status}
-use Rattle.pack_cli.specs.declared.status.Status.TheVariants as status
 
 -- a look answered a read fault
 abbrev pub is_look_failed : {T : Type 0} → Result T LookFault → Bool
@@ -59,14 +57,3 @@ fault_line NoMemory = []
 abbrev pub lines_of : Result (List ℕ) RoundFault → List ℕ
 lines_of (Ok lines) = lines
 lines_of (Err fault) = fault_line fault
-
-abbrev pub fault_status : RoundFault → Status
-fault_status (Refused fault) = status.Refused
-fault_status ReadFault = status.ReadFault
-fault_status WriteFault = status.WriteFault
-fault_status NoMemory = status.NoMemory
-
--- the status of a run whose last round answered this
-abbrev pub status_of : Result (List ℕ) RoundFault → Status
-status_of (Ok lines) = status.Done
-status_of (Err fault) = fault_status fault

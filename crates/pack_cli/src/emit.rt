@@ -29,8 +29,8 @@ fn append_factory(alloc: Global, file: &mut Vec<u8>, body: &[u8]) -> Result<(), 
     Ok(())
 }
 
-#[tactic(auto, unfolding(crate::specs::Output::main_of))]
 /// The entry file of one CommonJS module without a site, which has this body.
+#[tactic(auto, unfolding(crate::specs::Output::main_of))]
 pub fn main_file(alloc: Global, body: &[u8]) -> Result<Bytes, AllocError>
     ensures { IfOk result (λ file. file ≡ main_of body.now) }
 {

@@ -42,8 +42,8 @@ pub fn refused_line(alloc: Global, fault: &BuildFault) -> Result<Bytes, AllocErr
     Ok(Bytes::from_vec(line))
 }
 
-#[tactic(auto, unfolding(crate::specs::Output::lines_of_size))]
 /// The lines of a tree that is built into one file of this size.
+#[tactic(auto, unfolding(crate::specs::Output::lines_of_size))]
 pub fn built_lines(alloc: Global, size: usize) -> Result<Bytes, AllocError>
     ensures { IfOk result (λ lines. lines ≡ lines_of_size size) }
 {

@@ -11,8 +11,8 @@ use crate::print::built_lines;
 use pk_base::{Bytes, Failed, Files, Store};
 use std::alloc::Global;
 
-#[tactic(auto, using(crate::proofs::Looks::asks_once))]
 /// Builds the present tree: its output is put, and the lines to print are answered. All memory is taken before the put.
+#[tactic(auto, using(crate::proofs::Looks::asks_once))]
 pub fn round<F: Files, O: Store>(
     alloc: Global,
     files: &mut F,

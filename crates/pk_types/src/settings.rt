@@ -1,0 +1,47 @@
+use crate::sequence::Sequence;
+use crate::text::Text;
+
+/// What `pack.json` says, with the defaults in place of what it leaves out.
+#[derive(Debug, Drop)]
+pub struct Config {
+    /// Entry names and their requests, in byte order of the names.
+    pub entries: Sequence<(Text, Text)>,
+    pub concatenate: bool,
+    pub side_effects: bool,
+    pub hashed: bool,
+    pub split: Option<SplitConfig>,
+}
+
+/// How modules that several chunks hold are split into chunks of their own.
+#[derive(Debug, Drop)]
+pub struct SplitConfig {
+    pub chunks: Which,
+    pub min_size: u32,
+    pub enforce: u32,
+    pub min_chunks: u32,
+    pub max_async: u32,
+    pub max_initial: u32,
+    /// In byte order of their names, without those that are given as false.
+    pub groups: Sequence<CacheGroup>,
+}
+
+/// A group of modules that may share a chunk.
+#[derive(Debug, Drop)]
+pub struct CacheGroup {
+    pub name: Text,
+    /// A segment that a module's path must hold. Without one every module belongs.
+    pub test: Option<Text>,
+    pub chunks: Which,
+    pub min_size: u32,
+    pub min_chunks: u32,
+    pub priority: i32,
+    pub reuse: bool,
+}
+
+/// Which chunks modules are split from.
+#[derive(Clone, Copy, Debug, PartialEq, Eq)]
+pub enum Which {
+    Async,
+    Initial,
+    All,
+}

@@ -1,0 +1,12 @@
+pub mod Lexing
+pub mod Words
+pub mod Places
+pub mod Complete
+pub mod Views
+pub mod Sound
+pub mod Merging
+pub mod Loops
+pub mod Whole
+pub mod Choice
+pub mod Steps
+pub mod Cutting

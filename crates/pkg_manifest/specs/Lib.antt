@@ -1,0 +1,12 @@
+pub mod Characters
+pub mod Numbers
+pub mod Members
+pub mod Grammar
+pub mod Reading
+pub mod Fields
+pub mod Named
+pub mod Fitting
+pub mod Patterns
+pub mod Flags
+pub mod Blocks
+pub mod BlockViews
