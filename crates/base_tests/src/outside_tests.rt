@@ -1,90 +1,101 @@
-// The objects in memory: each call once, the failing calls, the turns and the limits.
+// The objects in memory: each call once, the failing calls, the turns and the limits. A script of calls is one text, and so
+// is what they answer.
 use crate::count_on_a_blank;
 use pk_base::{
-    Bytes, Call, Failed, Files, Interner, MemFiles, MemSink, MemSource, MemStore, Path, Read,
-    ReadFail, Sequence, Sink, Source, Store, Tree,
+    Bytes, Call, Failed, FailsByNumber, Files, Interner, MemFiles, MemSink, MemSource, MemStore,
+    Path, Read, ReadFail, Sequence, Sink, Source, Store, Tree,
 };
 use std::alloc::{AllocError, Global};
 use std::test::Fail;
 
-fn path(alloc: Global, text: &str) -> Result<Path, AllocError> {
-    match Path::root(alloc).join(text.as_bytes())? {
+fn path(alloc: Global, text: &[u8]) -> Result<Path, AllocError> {
+    match Path::root(alloc).join(text)? {
         Some(path) => Ok(path),
         None => Ok(Path::root(alloc)),
     }
 }
 
-fn tree(alloc: Global, files: &[(&str, &str)]) -> Result<Tree, AllocError> {
+// A tree of paths and their texts, by turns.
+fn tree(alloc: Global, files: &str) -> Result<Tree, AllocError> {
     let mut items = Vec::new(alloc);
-    for (at, text) in files {
-        items.push((path(alloc, *at)?, Bytes::copy_of(alloc, text.as_bytes())?))?;
+    let mut words = files.as_bytes().split(|byte| *byte == b' ');
+    while let (Some(at), Some(text)) = (words.next(), words.next()) {
+        items.push((path(alloc, at)?, Bytes::copy_of(alloc, text)?))?;
     }
     Ok(Tree {
         files: Sequence::from_vec(items),
     })
 }
 
+// Three trees, of which two are to come.
+fn three_trees(alloc: Global) -> Result<Vec<Tree>, AllocError> {
+    let mut trees = Vec::new(alloc);
+    trees.push(tree(alloc, "a.js one src/b.js two src.js side")?)?;
+    trees.push(tree(alloc, "a.js ONE src/c/d.js deep src.js SIDE")?)?;
+    trees.push(tree(alloc, "new.js new a.js last")?)?;
+    Ok(trees)
+}
+
 fn numbers(alloc: Global, items: &[u64]) -> Result<Vec<u64>, AllocError> {
     Vec::from_slice(alloc, items)
 }
 
-// Whether a read answers this: a file's text, or the word for another answer.
-fn reads(files: &mut MemFiles, alloc: Global, at: &str, limit: u32, want: &str) -> bool {
-    let Ok(at) = path(alloc, at) else {
-        return false;
-    };
-    match files.read(&at, limit) {
-        Ok(Read::Absent) => want == "absent",
-        Ok(Read::Longer) => want == "longer",
-        Ok(Read::Bytes(bytes)) => bytes.as_slice() == want.as_bytes(),
-        Err(ReadFail::Failed) => want == "failed",
-        Err(ReadFail::NoMemory) => want == "no memory",
+// Reads a file up to a limit, and writes what comes: its text, or the word for another answer.
+fn read(
+    alloc: Global,
+    files: &mut MemFiles,
+    at: &[u8],
+    limit: u32,
+    out: &mut Vec<u8>,
+) -> Result<(), AllocError> {
+    match files.read(&path(alloc, at)?, limit) {
+        Ok(Read::Absent) => out.extend_from_slice(b" absent"),
+        Ok(Read::Longer) => out.extend_from_slice(b" longer"),
+        Ok(Read::Bytes(bytes)) => {
+            out.push(b' ')?;
+            out.extend_from_slice(bytes.as_slice())
+        }
+        Err(ReadFail::Failed) => out.extend_from_slice(b" failed"),
+        Err(ReadFail::NoMemory) => Err(AllocError),
     }
 }
 
-fn three_trees(alloc: Global) -> Result<Vec<Tree>, AllocError> {
-    let mut trees = Vec::new(alloc);
-    trees.push(tree(
-        alloc,
-        &[("a.js", "one"), ("src/b.js", "two"), ("src.js", "side")],
-    )?)?;
-    trees.push(tree(
-        alloc,
-        &[("a.js", "ONE"), ("src/c/d.js", "deep"), ("src.js", "SIDE")],
-    )?)?;
-    trees.push(tree(alloc, &[("new.js", "new"), ("a.js", "last")])?)?;
-    Ok(trees)
-}
-
-fn listed(alloc: Global, texts: &[&str]) -> Result<Vec<Path>, AllocError> {
-    let mut paths = Vec::new(alloc);
-    for text in texts {
-        paths.push(path(alloc, *text)?)?;
+// Plays words on files: `turn:` and what is listed up to a comma, or a path that is read up to a limit.
+fn play(
+    alloc: Global,
+    files: &mut MemFiles,
+    script: &str,
+    limit: u32,
+) -> Result<Vec<u8>, AllocError> {
+    let mut out = Vec::new(alloc);
+    for word in script.as_bytes().split(|byte| *byte == b' ') {
+        match word.strip_prefix(b"turn:") {
+            Some(list) => {
+                let mut listed = Vec::new(alloc);
+                for item in list.split(|byte| *byte == b',') {
+                    listed.push(path(alloc, item)?)?;
+                }
+                files.turn(&listed);
+            }
+            None => read(alloc, files, word, limit, &mut out)?,
+        }
     }
-    Ok(paths)
+    Ok(out)
 }
 
 #[test]
 fn reads_up_to_the_limit(rt: HostRuntime) -> Result<(), Fail> {
     let alloc = rt.alloc();
     let mut files = MemFiles::new(alloc, three_trees(alloc)?, numbers(alloc, &[])?)?;
-    for (at, limit, want) in [
-        ("a.js", 3, "one"),
-        ("a.js", 2, "longer"),
-        ("a.js", 0, "longer"),
-        ("src/b.js", u32::MAX, "two"),
-        ("src", 9, "absent"),
-        ("", 9, "absent"),
-        ("new.js", 9, "absent"),
-        ("unheard.js", 9, "absent"),
-    ] {
-        assert!(rt; reads(&mut files, alloc, at, limit, want), "{at} {limit}");
-    }
-    assert_eq!(rt; files.asks().len(), 8);
-    assert!(rt; files.asks()[3].as_slice() == b"src/b.js".as_slice());
+    let answers = play(alloc, &mut files, "a.js src.js src new.js .", 3)?;
+    assert!(rt; answers.as_slice() == b" one longer absent absent absent".as_slice());
+    let answers = play(alloc, &mut files, "a.js src/b.js", u32::MAX)?;
+    assert!(rt; answers.as_slice() == b" one two".as_slice());
+    assert_eq!(rt; files.asks().len(), 7);
+    assert!(rt; files.asks()[6].as_slice() == b"src/b.js".as_slice());
     let mut none = MemFiles::new(alloc, Vec::new(alloc), numbers(alloc, &[])?)?;
-    none.turn(&listed(alloc, &[""])?);
-    assert!(rt; reads(&mut none, alloc, "a.js", 9, "absent"));
+    let answers = play(alloc, &mut none, "turn:. a.js", 9)?;
+    assert!(rt; answers.as_slice() == b" absent".as_slice());
     Ok(())
 }
 
@@ -92,46 +103,15 @@ fn reads_up_to_the_limit(rt: HostRuntime) -> Result<(), Fail> {
 fn turns_what_the_list_covers(rt: HostRuntime) -> Result<(), Fail> {
     let alloc = rt.alloc();
     let mut files = MemFiles::new(alloc, three_trees(alloc)?, numbers(alloc, &[])?)?;
-    let turns = [
-        (
-            ["src", "nothing"],
-            [
-                ("a.js", "one"),
-                ("src/b.js", "absent"),
-                ("src/c/d.js", "deep"),
-                ("src.js", "side"),
-            ],
-        ),
-        (
-            ["new.js", "a.js"],
-            [
-                ("a.js", "last"),
-                ("new.js", "new"),
-                ("src/c/d.js", "deep"),
-                ("src.js", "side"),
-            ],
-        ),
-        (
-            ["", "a.js"],
-            [
-                ("a.js", "last"),
-                ("new.js", "new"),
-                ("src/c/d.js", "deep"),
-                ("src.js", "side"),
-            ],
-        ),
-    ];
-    for (folders, wants) in turns {
-        files.turn(&listed(alloc, folders.as_slice())?);
-        for (at, want) in wants {
-            assert!(rt; reads(&mut files, alloc, at, 9, want), "{at} {want}");
-        }
-    }
-    assert_eq!(rt; files.asks().len(), 12);
+    let script =
+        "turn:src,nothing a.js src/b.js src/c/d.js src.js turn:new.js,a.js a.js new.js src/c/d.js src.js turn:. a.js new.js";
+    let answers = play(alloc, &mut files, script, 9)?;
+    assert!(rt;
+        answers.as_slice() == b" one absent deep side last new deep side last new".as_slice()
+    );
     let mut all = MemFiles::new(alloc, three_trees(alloc)?, numbers(alloc, &[])?)?;
-    all.turn(&listed(alloc, &[""])?);
-    assert!(rt; reads(&mut all, alloc, "src/b.js", 9, "absent"));
-    assert!(rt; reads(&mut all, alloc, "src.js", 9, "SIDE"));
+    let answers = play(alloc, &mut all, "turn:. src/b.js src.js", 9)?;
+    assert!(rt; answers.as_slice() == b" absent SIDE".as_slice());
     Ok(())
 }
 
@@ -139,57 +119,66 @@ fn turns_what_the_list_covers(rt: HostRuntime) -> Result<(), Fail> {
 fn reads_fail_by_number(rt: HostRuntime) -> Result<(), Fail> {
     let alloc = rt.alloc();
     let mut files = MemFiles::new(alloc, three_trees(alloc)?, numbers(alloc, &[3, 1])?)?;
-    for want in ["one", "failed", "one", "failed", "one"] {
-        assert!(rt; reads(&mut files, alloc, "a.js", 9, want));
-        files.turn(&listed(alloc, &[])?);
-    }
-    assert_eq!(rt; files.asks().len(), 5);
+    let answers = play(alloc, &mut files, "a.js a.js turn:none a.js a.js a.js", 9)?;
+    assert!(rt; answers.as_slice() == b" one failed one failed one".as_slice());
+    assert!(rt; !files.is_next_due());
     Ok(())
 }
 
-// Whether a store holds this text under a name.
-fn holds(store: &MemStore, name: &str, want: &str) -> bool {
-    match store.get(name.as_bytes()) {
-        Some(bytes) => bytes.as_slice() == want.as_bytes(),
-        None => want == "absent",
+// Puts a text under a name, where it is one, or removes the name, and tells whether that succeeds and what is held then.
+fn change(
+    store: &mut MemStore,
+    name: &[u8],
+    text: Option<&[u8]>,
+    out: &mut Vec<u8>,
+) -> Result<(), AllocError> {
+    let done = match text {
+        Some(text) => store.put(name, text),
+        None => store.remove(name),
+    };
+    out.extend_from_slice(if done.is_ok() { b" done " } else { b" fail " })?;
+    match store.get(name) {
+        Some(bytes) => out.extend_from_slice(bytes.as_slice()),
+        None => out.extend_from_slice(b"-"),
     }
 }
 
-// Whether a call is a put, or a removal, of this name.
-fn is_call(call: &Call, puts: bool, want: &str) -> bool {
-    match call {
-        Call::Put(name) => puts && name.as_slice() == want.as_bytes(),
-        Call::Remove(name) => !puts && name.as_slice() == want.as_bytes(),
+// The calls of a store, as they were made.
+fn calls_of(alloc: Global, store: &MemStore) -> Result<Vec<u8>, AllocError> {
+    let mut out = Vec::new(alloc);
+    for call in store.calls() {
+        let name = match call {
+            Call::Put(name) => {
+                out.extend_from_slice(b" put ")?;
+                name
+            }
+            Call::Remove(name) => {
+                out.extend_from_slice(b" remove ")?;
+                name
+            }
+        };
+        out.extend_from_slice(name.as_slice())?;
     }
+    Ok(out)
 }
 
 #[test]
 fn a_store_keeps_its_calls(rt: HostRuntime) -> Result<(), Fail> {
     let alloc = rt.alloc();
     let mut store = MemStore::new(alloc, numbers(alloc, &[2, 4])?)?;
-    let steps = [
-        ("a", true, true, "new"),
-        ("b", true, true, "new"),
-        ("a", true, false, "new"),
-        ("b", true, true, "new"),
-        ("b", false, false, "new"),
-        ("b", false, true, "absent"),
-        ("none", false, true, "absent"),
-    ];
-    for (name, puts, succeeds, held) in steps {
-        let done = if puts {
-            store.put(name.as_bytes(), b"new")
-        } else {
-            store.remove(name.as_bytes())
-        };
-        assert_eq!(rt; done.is_ok(), succeeds, "{name}");
-        assert!(rt; holds(&store, name, held), "{name}");
+    let mut out = Vec::new(alloc);
+    let script = b"a=x b=y a=z b=w b b none";
+    for step in script.split(|byte| *byte == b' ') {
+        let mut words = step.split(|byte| *byte == b'=');
+        let name = words.next().ok_or("no name")?;
+        change(&mut store, name, words.next(), &mut out)?;
     }
+    assert!(rt; out.as_slice() == b" done x done y fail x done w fail w done - done -".as_slice());
+    assert!(rt;
+        calls_of(alloc, &store)?.as_slice()
+            == b" put a put b put a put b remove b remove b remove none".as_slice()
+    );
     assert_eq!(rt; store.names().count(), 1);
-    assert_eq!(rt; store.calls().len(), steps.len());
-    for (call, (name, puts, _, _)) in store.calls().iter().zip(steps) {
-        assert!(rt; is_call(call, puts, name), "{name}");
-    }
     Ok(())
 }
 
@@ -198,12 +187,10 @@ fn a_source_ends_with_zero(rt: HostRuntime) -> Result<(), Fail> {
     let alloc = rt.alloc();
     let mut source = MemSource::new(Vec::from_slice(alloc, b"abcde")?, numbers(alloc, &[1])?)?;
     let mut into = [0u8; 3];
-    assert!(rt; source.take(&mut into) == Ok(3));
-    assert!(rt; &into == b"abc");
+    assert!(rt; source.take(&mut into) == Ok(3) && into.as_slice() == b"abc".as_slice());
     assert!(rt; source.take(&mut into) == Err(Failed));
     assert!(rt; source.remaining() == b"de".as_slice());
-    assert!(rt; source.take(&mut into) == Ok(2));
-    assert!(rt; into[0] == b'd' && into[1] == b'e');
+    assert!(rt; source.take(&mut into) == Ok(2) && &into[..2] == b"de".as_slice());
     assert!(rt; source.take(&mut into) == Ok(0));
     Ok(())
 }
@@ -212,7 +199,7 @@ fn a_source_ends_with_zero(rt: HostRuntime) -> Result<(), Fail> {
 fn a_sink_holds_what_was_put(rt: HostRuntime) -> Result<(), Fail> {
     let alloc = rt.alloc();
     let mut sink = MemSink::new(alloc, numbers(alloc, &[1])?)?;
-    assert!(rt; sink.put(b"ab") == Ok(()));
+    assert!(rt; sink.put(b"ab") == Ok(()) && sink.is_next_due());
     assert!(rt; sink.put(b"cd") == Err(Failed));
     assert!(rt; sink.put(b"ef") == Ok(()));
     assert!(rt; sink.bytes() == b"abef".as_slice());
@@ -220,18 +207,11 @@ fn a_sink_holds_what_was_put(rt: HostRuntime) -> Result<(), Fail> {
 }
 
 #[test]
-fn bytes_are_a_small_type(rt: HostRuntime) -> Result<(), Fail> {
+fn bytes_and_sequences_are_small_types(rt: HostRuntime) -> Result<(), Fail> {
     let bytes = Bytes::copy_of(rt.alloc(), b"ab")?;
     let same = Bytes::from_vec(Vec::from_slice(rt.alloc(), b"ab")?);
-    assert!(rt; bytes == same);
-    assert_eq!(rt; bytes.len(), 2);
-    assert!(rt; !bytes.is_empty());
+    assert!(rt; bytes == same && bytes.len() == 2 && !bytes.is_empty());
     assert_eq!(rt; bytes.into_vec().len(), 2);
-    Ok(())
-}
-
-#[test]
-fn a_sequence_is_a_small_type(rt: HostRuntime) -> Result<(), Fail> {
     let items = Sequence::from_vec(numbers(rt.alloc(), &[7, 8])?);
     assert_eq!(rt; items.len(), 2);
     assert!(rt; items.as_slice() == [7, 8].as_slice());
@@ -242,12 +222,12 @@ fn a_sequence_is_a_small_type(rt: HostRuntime) -> Result<(), Fail> {
 #[test]
 fn texts_are_numbered(rt: HostRuntime) -> Result<(), Fail> {
     let mut names = Interner::new(rt.alloc());
-    for (text, number) in [("a", 0), ("b", 1), ("a", 0)] {
-        assert_eq!(rt; names.intern(text.as_bytes())?, number);
-        assert!(rt; names.find(text.as_bytes()) == Some(number));
+    let mut out = Vec::new(rt.alloc());
+    for text in b"a b a".split(|byte| *byte == b' ') {
+        out.push(names.intern(text)?)?;
     }
-    assert!(rt; names.find(b"c").is_none());
-    assert_eq!(rt; names.len(), 2);
+    assert!(rt; out.as_slice() == [0, 1, 0].as_slice());
+    assert!(rt; names.find(b"b") == Some(1) && names.find(b"c").is_none());
     if names.len() == 2 {
         assert!(rt; names.text_of(1) == b"b".as_slice());
     }

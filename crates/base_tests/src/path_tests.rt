@@ -1,245 +1,186 @@
-// Paths that are read, joined and left, by tables of cases.
+// Paths that are read, joined and left. A table is one text: its rows end with \xfe, and its fields with \xfd.
 use pk_base::{Path, PathFault};
 use std::alloc::{AllocError, Global};
 use std::test::Fail;
 
 const LONGEST: usize = 1024;
 
-// What reading a text tells: nothing, where it is the path of that text.
-fn fault_of(alloc: Global, text: &[u8]) -> Option<PathFault> {
+// What reading a text tells, in words.
+fn told(alloc: Global, text: &[u8]) -> Result<String, AllocError> {
     if text.len() > 1 << 20 {
-        return Some(PathFault::NoMemory);
+        return String::from_str(alloc, "too much for a test");
     }
     match Path::read(alloc, text) {
-        Ok(path) if path.as_bytes() == text => None,
-        Ok(_) => Some(PathFault::NoMemory),
-        Err(fault) => Some(fault),
+        Ok(path) if path.as_bytes() == text => String::from_str(alloc, "path"),
+        Ok(_) => String::from_str(alloc, "another path"),
+        Err(PathFault::Empty) => String::from_str(alloc, "empty"),
+        Err(PathFault::Long(length)) => format!(in alloc; "long {length}"),
+        Err(PathFault::Bad(place)) => format!(in alloc; "bad {place}"),
+        Err(PathFault::NoMemory) => Err(AllocError),
     }
 }
 
-#[test]
-fn reads_paths(rt: HostRuntime) {
-    for text in [
-        "a",
-        "src/main.js",
-        "a/b/c/d/e",
-        "...",
-        ".a",
-        "..a",
-        "a.",
-        "a..",
-        ".../....",
-        "a b",
-        " ",
-        "~",
-        "a'b",
-        "a<b>|?:c",
-        "é",
-        "\u{80}",
-        "\u{85}",
-        "\u{2028}",
-        "日本/語.js",
-        "😀",
-    ] {
-        assert_eq!(rt; fault_of(rt.alloc(), text.as_bytes()), None, "at {text:?}");
-    }
-}
+const READINGS: &[u8] = b"\
+path\xfda\xfe\
+path\xfdsrc/main.js\xfe\
+path\xfda/b/c/d/e\xfe\
+path\xfd...\xfe\
+path\xfd.a\xfe\
+path\xfd..a\xfe\
+path\xfda.\xfe\
+path\xfda..\xfe\
+path\xfd.../....\xfe\
+path\xfda b\xfe\
+path\xfd \xfe\
+path\xfd~\xfe\
+path\xfda'b\xfe\
+path\xfda<b>|?:c\xfe\
+path\xfd\xc3\xa9\xfe\
+path\xfd\xc2\x80\xfe\
+path\xfd\xc2\x85\xfe\
+path\xfd\xe2\x80\xa8\xfe\
+path\xfd\xe6\x97\xa5\xe6\x9c\xac/\xe8\xaa\x9e.js\xfe\
+path\xfd\xf0\x9f\x98\x80\xfe\
+bad 0\xfd/\xfe\
+bad 0\xfd/a\xfe\
+bad 0\xfd//\xfe\
+bad 0\xfd.\xfe\
+bad 0\xfd..\xfe\
+bad 0\xfd./a\xfe\
+bad 0\xfd../a\xfe\
+bad 2\xfda/\xfe\
+bad 2\xfda//b\xfe\
+bad 2\xfda/./b\xfe\
+bad 2\xfda/../b\xfe\
+bad 2\xfda/.\xfe\
+bad 2\xfda/..\xfe\
+bad 6\xfdab/cd//\xfe\
+bad 3\xfd\xc3\xa9/\xfe\
+bad 1\xfda\\b\xfe\
+bad 1\xfda\0\xfe\
+bad 0\xfd\x1f\xfe\
+bad 1\xfda\nb\xfe\
+bad 1\xfda\x7f\xfe\
+bad 1\xfda*\xfe\
+bad 1\xfda\"b\xfe\
+bad 4\xfdab/c*/..\xfe\
+bad 0\xfd./*\xfe\
+bad 0\xfd*/.\xfe\
+bad 1\xfd.*\xfe\
+bad 2\xfd\xc3\xa9\t\xfe\
+bad 2\xfda/\xff\xfe\
+bad 0\xfd\x80a\xfe\
+bad 2\xfdab\xc3\xfe\
+bad 1\xfda\xed\xa0\x80\xfe\
+bad 1\xfda\xc0\xaf\xfe\
+bad 1\xfda\xff/*\xfe\
+bad 1\xfda*/\xff\xfe\
+bad 2\xfda//\xff\xfe\
+empty\xfd";
 
 #[test]
-fn finds_reserved_segments(rt: HostRuntime) {
-    for (text, place) in [
-        ("/", 0),
-        ("/a", 0),
-        ("//", 0),
-        (".", 0),
-        ("..", 0),
-        ("./a", 0),
-        ("../a", 0),
-        ("a/", 2),
-        ("a//b", 2),
-        ("a/./b", 2),
-        ("a/../b", 2),
-        ("a/.", 2),
-        ("a/..", 2),
-        ("ab/cd//", 6),
-        ("é/", 3),
-    ] {
-        let wanted = Some(PathFault::Bad(place));
-        assert_eq!(rt;
-            fault_of(rt.alloc(), text.as_bytes()),
-            wanted,
-            "at {text:?}"
-        );
+fn reads_paths(rt: HostRuntime) -> Result<(), Fail> {
+    for row in READINGS.split(|byte| *byte == 0xfe) {
+        let mut fields = row.split(|byte| *byte == 0xfd);
+        let want = fields.next().ok_or("no answer")?;
+        let text = fields.next().ok_or("no text")?;
+        (told(rt.alloc(), text)?.as_bytes() == want)
+            .then_some(())
+            .ok_or("another answer")?;
     }
-}
-
-#[test]
-fn finds_forbidden_bytes(rt: HostRuntime) {
-    for (text, place) in [
-        ("a\\b", 1),
-        ("a\0", 1),
-        ("\u{1f}", 0),
-        ("a\nb", 1),
-        ("a\u{7f}", 1),
-        ("a*", 1),
-        ("a\"b", 1),
-        ("ab/c*/..", 4),
-        ("./*", 0),
-        ("*/.", 0),
-        (".*", 1),
-        ("é\t", 2),
-    ] {
-        let wanted = Some(PathFault::Bad(place));
-        assert_eq!(rt;
-            fault_of(rt.alloc(), text.as_bytes()),
-            wanted,
-            "at {text:?}"
-        );
-    }
-}
-
-#[test]
-fn finds_where_utf8_ends(rt: HostRuntime) {
-    assert_eq!(rt; fault_of(rt.alloc(), b"a/\xff"), Some(PathFault::Bad(2)));
-    assert_eq!(rt; fault_of(rt.alloc(), b"\x80a"), Some(PathFault::Bad(0)));
-    assert_eq!(rt; fault_of(rt.alloc(), b"ab\xc3"), Some(PathFault::Bad(2)));
-    assert_eq!(rt;
-        fault_of(rt.alloc(), b"a\xed\xa0\x80"),
-        Some(PathFault::Bad(1))
-    );
-    assert_eq!(rt; fault_of(rt.alloc(), b"a\xc0\xaf"), Some(PathFault::Bad(1)));
-    assert_eq!(rt; fault_of(rt.alloc(), b"a\xff/*"), Some(PathFault::Bad(1)));
-    assert_eq!(rt; fault_of(rt.alloc(), b"a*/\xff"), Some(PathFault::Bad(1)));
-    assert_eq!(rt; fault_of(rt.alloc(), b"a//\xff"), Some(PathFault::Bad(2)));
+    Ok(())
 }
 
 #[test]
 fn looks_at_the_length_first(rt: HostRuntime) -> Result<(), Fail> {
-    assert_eq!(rt; fault_of(rt.alloc(), b""), Some(PathFault::Empty));
     let longest = vec![in rt.alloc(); b'a'; LONGEST]?;
-    assert_eq!(rt; fault_of(rt.alloc(), longest.as_slice()), None);
-    let long = vec![in rt.alloc(); b'a'; LONGEST + 1]?;
-    assert_eq!(rt;
-        fault_of(rt.alloc(), long.as_slice()),
-        Some(PathFault::Long(1025))
-    );
-    let stars = vec![in rt.alloc(); b'*'; 5000]?;
-    assert_eq!(rt;
-        fault_of(rt.alloc(), stars.as_slice()),
-        Some(PathFault::Long(5000))
-    );
+    assert!(rt; told(rt.alloc(), longest.as_slice())?.as_str() == "path");
+    let long = vec![in rt.alloc(); b'*'; LONGEST + 1]?;
+    assert!(rt; told(rt.alloc(), long.as_slice())?.as_str() == "long 1025");
     Ok(())
 }
 
-// Whether a relative text leads from a folder to the path, or above the root where none is given.
-fn leads(
-    alloc: Global,
-    folder: &[u8],
-    relative: &[u8],
-    wanted: Option<&[u8]>,
-) -> Result<bool, AllocError> {
-    let folder = match folder {
-        [] => Path::root(alloc),
-        text if text.len() <= LONGEST => match Path::read(alloc, text) {
-            Ok(path) => path,
-            Err(_) => return Ok(false),
-        },
-        _ => return Ok(false),
-    };
-    Ok(match (folder.join(relative)?, wanted) {
-        (Some(path), Some(text)) => path.as_bytes() == text,
-        (None, None) => true,
-        _ => false,
-    })
+// The written path to which a relative text leads from a folder, or nothing.
+fn joined(alloc: Global, folder: &[u8], relative: &[u8]) -> Result<Option<Path>, AllocError> {
+    match Path::root(alloc).join(folder)? {
+        Some(folder) => folder.join(relative),
+        None => Ok(None),
+    }
 }
+
+// From a folder, by a relative text, to a path, or to none where the third field is missing.
+const JOINS: &[u8] = b"\
+src\xfd./x.js\xfdsrc/x.js\xfe\
+src\xfdx.js\xfdsrc/x.js\xfe\
+src\xfd../a\xfda\xfe\
+src\xfd..\xfd\xfe\
+src\xfd../\xfd\xfe\
+src\xfd\xfdsrc\xfe\
+src\xfd.\xfdsrc\xfe\
+src\xfd/\xfdsrc\xfe\
+src\xfd/x\xfdsrc/x\xfe\
+\xfd\xfd\xfe\
+\xfda\xfda\xfe\
+\xfd./a/..\xfd\xfe\
+\xfda/../b\xfdb\xfe\
+a\xfdb//c/./d\xfda/b/c/d\xfe\
+a/b/c\xfd../../d\xfda/d\xfe\
+a/b\xfd../../c/../d\xfdd\xfe\
+a\xfdb*/../c\xfda/c\xfe\
+a\xfd\\\"\x7f/../c\xfda/c\xfe\
+a\xfd.../..b\xfda/.../..b\xfe\
+\xc3\xa9\xfd\xe6\x97\xa5/../\xe8\xaa\x9e\xfd\xc3\xa9/\xe8\xaa\x9e\xfe\
+a\xfd\xff/../c\xfda/c\xfe\
+\xfd..\xfe\
+\xfd../a\xfe\
+src\xfd../..\xfe\
+src\xfd../../src/a\xfe\
+a\xfdb*\xfe\
+a\xfdb\\c\xfe\
+a\xfdb\0\xfe\
+a\xfdb\"/c\xfe\
+\xfd\x7f\xfe\
+a\xfd\xff\xfe\
+a\xfd\xc3/\xa9";
 
 #[test]
 fn joins_paths(rt: HostRuntime) -> Result<(), Fail> {
-    for (folder, relative, wanted) in [
-        ("src", "./x.js", "src/x.js"),
-        ("src", "x.js", "src/x.js"),
-        ("src", "../a", "a"),
-        ("src", "..", ""),
-        ("src", "../", ""),
-        ("src", "", "src"),
-        ("src", ".", "src"),
-        ("src", "/", "src"),
-        ("src", "/x", "src/x"),
-        ("", "", ""),
-        ("", "a", "a"),
-        ("", "./a/..", ""),
-        ("", "a/../b", "b"),
-        ("a", "b//c/./d", "a/b/c/d"),
-        ("a/b/c", "../../d", "a/d"),
-        ("a/b", "../../c/../d", "d"),
-        ("a", "b*/../c", "a/c"),
-        ("a", "\\\"\u{7f}/../c", "a/c"),
-        ("a", ".../..b", "a/.../..b"),
-        ("é", "日本/../語", "é/語"),
-    ] {
-        let wanted = Some(wanted.as_bytes());
-        assert!(rt;
-            leads(rt.alloc(), folder.as_bytes(), relative.as_bytes(), wanted)?,
-            "{relative:?} from {folder:?}"
-        );
+    for row in JOINS.split(|byte| *byte == 0xfe) {
+        let mut fields = row.split(|byte| *byte == 0xfd);
+        let folder = fields.next().ok_or("no folder")?;
+        let relative = fields.next().ok_or("no relative path")?;
+        let as_wanted = match (joined(rt.alloc(), folder, relative)?, fields.next()) {
+            (Some(path), Some(want)) => path.as_bytes() == want,
+            (None, None) => true,
+            _ => false,
+        };
+        as_wanted.then_some(()).ok_or("another path")?;
     }
-    Ok(())
-}
-
-#[test]
-fn joins_to_nothing(rt: HostRuntime) -> Result<(), Fail> {
-    for (folder, relative) in [
-        ("", ".."),
-        ("", "../a"),
-        ("src", "../.."),
-        ("src", "../../src/a"),
-        ("a", "b*"),
-        ("a", "b\\c"),
-        ("a", "b\0"),
-        ("a", "b\"/c"),
-        ("", "\u{7f}"),
-    ] {
-        assert!(rt;
-            leads(rt.alloc(), folder.as_bytes(), relative.as_bytes(), None)?,
-            "{relative:?} from {folder:?}"
-        );
-    }
-    Ok(())
-}
-
-#[test]
-fn joins_bytes_that_are_no_text(rt: HostRuntime) -> Result<(), Fail> {
-    assert!(rt; leads(rt.alloc(), b"a", b"\xff/../c", Some(b"a/c"))?);
-    assert!(rt; leads(rt.alloc(), b"a", b"\xff", None)?);
-    assert!(rt; leads(rt.alloc(), b"a", b"\xc3/\xa9", None)?);
     Ok(())
 }
 
 #[test]
 fn joins_long_texts(rt: HostRuntime) -> Result<(), Fail> {
     let mut long = vec![in rt.alloc(); b'b'; LONGEST - 2]?;
-    let mut wanted = Vec::from_slice(rt.alloc(), b"a/")?;
-    wanted.extend_from_slice(long.as_slice())?;
-    assert!(rt; leads(rt.alloc(), b"a", long.as_slice(), Some(wanted.as_slice()))?);
+    let longest = joined(rt.alloc(), b"a", long.as_slice())?.ok_or("no path")?;
+    assert_eq!(rt; longest.as_bytes().len(), LONGEST);
     long.push(b'b')?;
-    assert!(rt; leads(rt.alloc(), b"a", long.as_slice(), None)?);
+    assert!(rt; joined(rt.alloc(), b"a", long.as_slice())?.is_none());
     long.extend_from_slice(b"/../c")?;
-    assert!(rt; leads(rt.alloc(), b"a", long.as_slice(), Some(b"a/c"))?);
+    let short = joined(rt.alloc(), b"a", long.as_slice())?.ok_or("no path")?;
+    assert_eq!(rt; short.text(), "a/c");
     Ok(())
 }
 
 #[test]
 fn knows_the_folder(rt: HostRuntime) -> Result<(), Fail> {
-    let Ok(path) = Path::read(rt.alloc(), b"a/b/c.js") else {
-        return Err(Fail::from("no path"));
-    };
+    let path = joined(rt.alloc(), b"a/b", b"c.js")?.ok_or("no path")?;
     let folder = path.folder()?;
     assert_eq!(rt; folder.text(), "a/b");
     let top = folder.folder()?;
     assert_eq!(rt; top.text(), "a");
     let root = top.folder()?;
-    assert!(rt; root.is_root() && !top.is_root());
-    assert!(rt; root.folder()?.is_root());
+    assert!(rt; root.is_root() && !top.is_root() && root.folder()?.is_root());
     assert!(rt; path.copy()? == path && path != folder);
     Ok(())
 }

@@ -28,12 +28,14 @@ impl Model for Bytes {
 }
 
 impl Bytes {
+    /// The bytes of a `Vec`, without a copy.
     pub fn from_vec(items: Vec<u8>) -> Self
         ensures { result ≡ items.items }
     {
         Bytes { items }
     }
 
+    /// A copy on the heap.
     pub fn copy_of(alloc: Global, items: &[u8]) -> Result<Self, AllocError>
         ensures { IfOk result (λ b. b ≡ items.now) }
     {
@@ -41,24 +43,28 @@ impl Bytes {
         Ok(Bytes { items })
     }
 
+    /// The bytes, borrowed.
     pub fn as_slice(&self) -> &[u8]
         ensures { result.now ≡ self.now }
     {
         self.items.as_slice()
     }
 
+    /// The `Vec` that it stands on, without a copy.
     pub fn into_vec(self) -> Vec<u8>
         ensures { result.items ≡ self }
     {
         self.items
     }
 
+    /// The number of bytes.
     pub fn len(&self) -> usize
         ensures { result ≡ length self.now }
     {
         self.items.len()
     }
 
+    /// Whether there is no byte.
     pub fn is_empty(&self) -> bool
         ensures { IsTrue result ↔ (self.now ≡ []) }
     {

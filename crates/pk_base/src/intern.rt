@@ -28,6 +28,7 @@ impl Model for Interner {
 }
 
 impl Interner {
+    /// No text yet.
     pub fn new(alloc: Global) -> Self
         ensures { result ≡ [] }
     {
@@ -37,6 +38,7 @@ impl Interner {
         }
     }
 
+    /// The number of texts.
     pub fn len(&self) -> usize
         ensures len { result ≡ length self.now }
         ensures bound { length self.now ≤ 2 ^ 32 }

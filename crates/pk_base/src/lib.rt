@@ -16,6 +16,7 @@ mod steps;
 mod tree;
 
 pub use bytes::{Bytes, Key};
+pub use failures::FailsByNumber;
 pub use intern::Interner;
 pub use mem_files::MemFiles;
 pub use mem_store::MemStore;

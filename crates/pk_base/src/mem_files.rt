@@ -1,14 +1,16 @@
 // Files in memory, whose reads fail at the calls whose numbers they are given.
 ghost use Rattle.std.specs.List.{All};
-ghost use Rattle.std.specs.Prelude.{◌≡◌, ◌<◌, ℕ, List, [], Some, None, true, length, vec_len, map, slice_index_or, option_copied, IfOk, OnOk, IsSome, if◌then◌else◌};
+ghost use Rattle.std.specs.Prelude.{◌≡◌, ◌<◌, ℕ, List, [], Some, None, true, false, length, vec_len, drop, map, slice_index_or, option_copied, IfOk, OnOk, IsSome, IsTrue, if◌then◌else◌};
 ghost use Rattle.pk_base.specs.Memory.{held_in, AreKnown};
 ghost use Rattle.pk_base.specs.Starts.{first_of};
-ghost use Rattle.pk_base.specs.Outside.{covers as covers_path, is_under as is_under_folder};
+ghost use Rattle.pk_base.specs.Causes.{Counts, is_failed};
+ghost use Rattle.pk_base.specs.Outside.{covers as covers_path, is_under as is_under_folder, turned, read_of, Asked};
+ghost use Rattle.pk_base.specs.Schedules.{failing_at, is_due, with_call};
 ghost use Rattle.pk_base.specs.Places.{place_of};
 ghost use Rattle.std.specs.Str.{bytes_eq};
 ghost use Rattle.pk_base.specs.Trees.{held_of};
 
-use crate::failures::Failures;
+use crate::failures::{FailsByNumber, Failures};
 use crate::kept::keep_ask;
 use crate::{Bytes, Files, Interner, Path, Read, ReadFail, Tree};
 use std::alloc::{AllocError, Global};
@@ -151,7 +153,8 @@ impl MemFiles {
     /// The first of `trees` is there, or the empty tree, and the others are to come. The calls of `read`, counted
     /// from 0, whose numbers stand in `fails` fail.
     pub fn new(alloc: Global, trees: Vec<Tree>, fails: Vec<u64>) -> Result<Self, AllocError>
-        ensures { IfOk result (λ m. ⟦<MemFiles as Files>⟧.means m ≡ first_of (map held_of trees.items)) }
+        ensures means { IfOk result (λ m. ⟦<MemFiles as Files>⟧.means m ≡ first_of (map held_of trees.items)) }
+        ensures schedule { IfOk result (λ m. ⟦<MemFiles as FailsByNumber>⟧.schedule m ≡ failing_at fails.items) }
     {
         let paths = list_all(alloc, trees.as_slice())?;
         let mut coming = columns_of(alloc, &paths, trees)?;
@@ -169,6 +172,7 @@ impl MemFiles {
         })
     }
 
+    /// The written paths that were asked for, in order.
     pub fn asks(&self) -> &[Bytes]
         ensures { result.now ≡ (⟦<MemFiles as Files>⟧.means self.now).asks }
     {
@@ -186,11 +190,29 @@ impl MemFiles {
     }
 }
 
+impl FailsByNumber for MemFiles {
+    ghost schedule = { λ m. ⟦<Failures as FailsByNumber>⟧.schedule m.failures };
+
+    fn is_next_due(&self) -> bool {
+        self.failures.is_next_due()
+    }
+}
+
 impl Files for MemFiles {
     ghost means = { λ m. record { told = true; tree = held_in m.paths m.present.items; coming = map (λ column. held_in m.paths column.items) m.coming.items; asks = m.asks.items; faults = m.failures.count } };
 
-    fn read(&mut self, path: &Path, limit: u32) -> Result<Read, ReadFail> {
-        let fails = self.failures.is_due();
+    fn read(&mut self, path: &Path, limit: u32) -> Result<Read, ReadFail>
+        ensures answer { IfOk result (λ r. IsTrue ((⟦<MemFiles as Files>⟧.means self.old).told) → r ≡ read_of ((⟦<MemFiles as Files>⟧.means self.old).tree path.now) limit) }
+        ensures told { (⟦<MemFiles as Files>⟧.means self.new).told ≡ (⟦<MemFiles as Files>⟧.means self.old).told }
+        ensures tree { (⟦<MemFiles as Files>⟧.means self.new).tree ≡ (⟦<MemFiles as Files>⟧.means self.old).tree }
+        ensures coming { (⟦<MemFiles as Files>⟧.means self.new).coming ≡ (⟦<MemFiles as Files>⟧.means self.old).coming }
+        ensures asked { Asked ((⟦<MemFiles as Files>⟧.means self.old).asks) ((⟦<MemFiles as Files>⟧.means self.new).asks) path.now result }
+        ensures cause { Counts (is_failed result) ((⟦<MemFiles as Files>⟧.means self.old).faults) ((⟦<MemFiles as Files>⟧.means self.new).faults) }
+        ensures passes { OnOk result (is_due (⟦<MemFiles as FailsByNumber>⟧.schedule self.old) ≡ false) }
+        ensures fails { is_failed result ≡ true → is_due (⟦<MemFiles as FailsByNumber>⟧.schedule self.old) ≡ true }
+        ensures schedule { ⟦<MemFiles as FailsByNumber>⟧.schedule self.new ≡ with_call (⟦<MemFiles as FailsByNumber>⟧.schedule self.old) }
+    {
+        let fails = self.failures.count_call();
         keep_ask(self.alloc, &mut self.asks, path)?;
         if fails {
             self.failures.fault();
@@ -203,7 +225,14 @@ impl Files for MemFiles {
         }
     }
 
-    fn turn(&mut self, listed: &Vec<Path>) {
+    fn turn(&mut self, listed: &Vec<Path>)
+        ensures told { (⟦<MemFiles as Files>⟧.means self.new).told ≡ (⟦<MemFiles as Files>⟧.means self.old).told }
+        ensures turned { IsTrue ((⟦<MemFiles as Files>⟧.means self.old).told) → (⟦<MemFiles as Files>⟧.means self.new).tree ≡ turned listed.now.items ((⟦<MemFiles as Files>⟧.means self.old).coming) ((⟦<MemFiles as Files>⟧.means self.old).tree) }
+        ensures later { IsTrue ((⟦<MemFiles as Files>⟧.means self.old).told) → (⟦<MemFiles as Files>⟧.means self.new).coming ≡ drop 1 ((⟦<MemFiles as Files>⟧.means self.old).coming) }
+        ensures asks { (⟦<MemFiles as Files>⟧.means self.new).asks ≡ (⟦<MemFiles as Files>⟧.means self.old).asks }
+        ensures faults { (⟦<MemFiles as Files>⟧.means self.new).faults ≡ (⟦<MemFiles as Files>⟧.means self.old).faults }
+        ensures schedule { ⟦<MemFiles as FailsByNumber>⟧.schedule self.new ≡ ⟦<MemFiles as FailsByNumber>⟧.schedule self.old }
+    {
         if let Some(next) = self.coming.pop_front() {
             take_covered(&self.paths, listed.as_slice(), next, &mut self.present);
         }

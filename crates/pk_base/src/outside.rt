@@ -20,6 +20,7 @@ pub enum Read {
     Longer,
 }
 
+/// Why a read answered nothing.
 #[derive(Clone, Copy, Debug, PartialEq, Eq)]
 pub enum ReadFail {
     Failed,

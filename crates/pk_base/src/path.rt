@@ -3,12 +3,14 @@ ghost use Rattle.std.specs.Prelude.{◌≡◌, ◌↔◌, ◌≢◌, ◌<◌, �
 ghost use Rattle.std.specs.List.{All, list_all};
 ghost use Rattle.std.specs.Str.{bytes_eq};
 ghost use Rattle.std.specs.Cmp as compared;
-ghost use Rattle.std.specs.Cmp.Lexicographic.{nat_list_eq_equiv};
+ghost use Rattle.std.specs.Cmp.Lexicographic.{bytes_decides, nat_list_eq_equiv};
+ghost use Rattle.std.proofs.Common.{ap};
 ghost use Rattle.pk_base.specs.Paths.{is_path, is_segment, is_slash, is_forbidden, is_reserved, segment_at, begins_segment, Breaks, IsFirstBreak, segments, one_step, joined, path_or_none, folder_of, without_last};
 ghost use Rattle.pk_base.specs.PathScan.{is_end, has_fault, IsFirstFault, IsRelative};
 ghost use Rattle.pk_base.specs.PathFaults.{IsFaultOf};
 
 use std::alloc::{AllocError, Global};
+use std::hash::{Hash, Hasher};
 use std::marker::Model;
 use std::str;
 
@@ -67,6 +69,16 @@ impl PartialEq for Path {
 
 impl Eq for Path {
     ghost laws = { nat_list_eq_equiv };
+}
+
+impl Hash for Path {
+    ghost hash_input = { λ path. path ∷ [] };
+
+    ghost respects_eq = { λ x y h. ap (λ text. text ∷ []) ((bytes_decides x y).0 h) };
+
+    fn hash<H: Hasher>(&self, state: &mut H) {
+        state.write(self.text.as_bytes());
+    }
 }
 
 impl Path {

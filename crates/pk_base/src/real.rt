@@ -50,6 +50,7 @@ fn read_file<R: std::rt::Files>(rt: &R, alloc: Global, path: &str, limit: u32) -
 }
 
 impl<R: std::rt::Files + Drop> FolderFiles<R> {
+    /// The folder is the current one. Nothing is asked yet.
     pub fn new(rt: R, alloc: Global) -> Result<Self, AllocError>
         ensures { IfOk result (λ m. ⟦<FolderFiles<R> as Files>⟧.means m ≡ untold_files) }
     {
@@ -61,6 +62,7 @@ impl<R: std::rt::Files + Drop> FolderFiles<R> {
         })
     }
 
+    /// The written paths that were asked for, in order.
     pub fn asks(&self) -> &[Bytes]
         ensures { result.now ≡ (⟦<FolderFiles<R> as Files>⟧.means self.now).asks }
     {
@@ -125,6 +127,7 @@ fn remove_file<R: std::rt::Files>(rt: &R, alloc: Global, name: &[u8]) -> io::Res
 }
 
 impl<R: std::rt::Files + Drop> FolderStore<R> {
+    /// The folder is `dist` beneath the current one. Nothing is put yet.
     pub fn new(rt: R, alloc: Global) -> Result<Self, AllocError>
         ensures { IfOk result (λ m. ⟦<FolderStore<R> as Store>⟧.means m ≡ untold_store) }
     {
@@ -136,6 +139,7 @@ impl<R: std::rt::Files + Drop> FolderStore<R> {
         })
     }
 
+    /// The calls of `put` and `remove`, in order.
     pub fn calls(&self) -> &[Call]
         ensures { result.now ≡ (⟦<FolderStore<R> as Store>⟧.means self.now).calls }
     {
@@ -188,6 +192,7 @@ pub struct StdSource<R: Input + Drop> {
 }
 
 impl<R: Input + Drop> StdSource<R> {
+    /// The standard input, of which nothing is taken yet.
     pub fn new(rt: &R) -> Result<Self, AllocError>
         ensures { IfOk result (λ m. ⟦<StdSource<R> as Source>⟧.means m ≡ untold_source) }
     {
@@ -220,6 +225,7 @@ pub struct StdSink<R: Print + Drop> {
 }
 
 impl<R: Print + Drop> StdSink<R> {
+    /// The standard output.
     pub fn new(rt: R) -> Result<Self, AllocError>
         ensures { IfOk result (λ m. ⟦<StdSink<R> as Sink>⟧.means m ≡ untold_sink) }
     {

@@ -33,6 +33,7 @@ impl<L: Ledger> Steps<L> {
         Steps { book, share }
     }
 
+    /// Counts this many steps more.
     pub fn raise(&mut self, by: u64)
         ensures { self.new ≡ self.old + by }
     {
