@@ -1,0 +1,6 @@
+//! What a module's text becomes in a bundle.
+#![tactic(auto)]
+
+mod body;
+
+pub use body::{Body, Piece};

@@ -1,0 +1,4 @@
+mod Entries
+mod Rows
+mod Texts
+mod Within

@@ -1,0 +1,8 @@
+-- what was written, and what is left
+use Rattle.std.proofs.Common.{◌≡◌, ◌++◌, drop, codes}
+use Rattle.emit_chunk.specs.Joined.{each_behind}
+use Rattle.emit_chunk.specs.Entry.{chunk_id_text}
+use Rattle.emit_chunk.proofs.entry.put_chunk_ids.Given as goal
+
+abbrev pub invariant-loop-chunk : goal.invariant-loop-chunk
+invariant-loop-chunk l = l.out.items ++ each_behind (codes ", ") (chunk_id_text l.plan) (drop l.chunk-index l.chunks) ≡ l.initial.out.items ++ each_behind (codes ", ") (chunk_id_text l.plan) l.chunks
