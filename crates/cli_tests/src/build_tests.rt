@@ -35,7 +35,7 @@ fn a_body_keeps_tokens_alone(rt: HostRuntime) -> Result<(), Fail> {
 
 // Texts that are no lists of calls, a NUL between two.
 const OTHER_TEXTS: &[u8] =
-    b"f()\0f(;\0f(,);\0f(1,);\0f(1 2);\0f(g());\0f()();\0;\0f;\01();\0f(1.5);\0f(01);\0f(1a);\0f('a);\0f('a\\n');\0f(\"a\n\");\0// f();\0f(/* */);\0#!node\nf();\0f(`a`);\0f(\xc3\xa9);\0f('\xff');\0\xef\xbb\xbff();\0require(1);\0f(require);\0eval(1);\0__webpack_x();\0if(1);\0let(1);\0f(this);";
+    b"f()\0f(;\0f(,);\0f(1,);\0f(1 2);\0f(g());\0f()();\0;\0f;\01();\0f(1.5);\0f(01);\0f(1a);\0f('a);\0f('a\\n');\0f(\"a\n\");\0// f();\0f(/* */);\0#!node\nf();\0f(`a`);\0f(\xc3\xa9);\0f('\xff');\0\xef\xbb\xbff();\0require(1);\0f(require);\0eval(1);\0__webpack_x();\0if(1);\0let(1);\0f(this);\0\x0bf();\0f('\xc3\xa9');\0\\u0066();\0f(0x1);\0f(1n);\0f(.5);\0f(1_0);\0f();//";
 
 #[test]
 fn other_texts_are_not_built(rt: HostRuntime) -> Result<(), Fail> {

@@ -2,10 +2,15 @@
 #![tactic(auto)]
 
 mod characters;
+mod escapes;
+mod gap;
 mod lexemes;
+mod marks;
+mod numbers;
 mod reserved;
-mod runs;
 mod scanner;
+mod units;
+mod utf8;
 
 pub use es_tree::LexFault;
 pub use reserved::is_reserved;

@@ -1,35 +1,47 @@
-ghost use Rattle.std.specs.Prelude.{◌≡◌, ◌≤◌, ◌<◌, ◌^◌, length, IfOk, IfErr, slice_range};
-ghost use Rattle.es_tree.specs.Lexical.{token_at};
+ghost use Rattle.std.specs.Prelude.{◌≡◌, ◌≤◌, ◌<◌, ◌+◌, ◌^◌, length, IfOk, IfErr};
+ghost use Rattle.es_tree.specs.Lexical.{token_at, fault_of};
 ghost use Rattle.es_tree.specs.Places.{LiesBehind, IsFaultBehind};
-ghost use Rattle.es_tree.specs.Spelling.{IsSpelled};
 
+use crate::gap::{gap_end, has_line_terminator};
 use crate::lexemes::lexeme;
-use crate::runs::gap_of;
+use crate::utf8::{behind, character};
 use es_tree::{Goal, LexFault, Token};
 
-/// The token that stands at a place of a text, behind white space and line terminators. At the end of the text it is `End`.
+fn fault_of(start: u32, text: &[u8], reach: usize) -> LexFault
+    requires fits { start + length text.now < 2 ^ 32 }
+    ensures { result ≡ fault_of start text.now reach }
+{
+    if reach < text.len() && character(behind(text, reach)).1 == 0 {
+        LexFault::NotUtf8(start + reach as u32)
+    } else {
+        LexFault::NoToken(start)
+    }
+}
+
+/// The token of ECMA-262 that stands at a place of a text at a goal, behind white space, line terminators and comments. At the end
+/// of the text it is `End`.
 ///
-/// Texts are over ASCII so far, without comments, and the tokens are identifier names, runs of digits, strings without escapes,
-/// and `(` `)` `,` `;`. All else is `NoToken`, with the place where the token would begin. The goal makes no difference yet.
+/// The text is UTF-8. At its start U+FEFF and a first line that begins `#!` are passed over. Where no token of the goal stands, the
+/// answer is `NoToken` with the place where it would begin, or `NotUtf8` with the place where reading met bytes that are no UTF-8.
 pub fn next_token(bytes: &[u8], at: u32, goal: Goal) -> Result<Token, LexFault>
     requires short { length bytes.now < 2 ^ 32 }
     requires inside { at ≤ length bytes.now }
     ensures exact { result ≡ token_at bytes.now at goal }
     ensures placed { IfOk result (LiesBehind bytes.now at) }
-    ensures spelled { IfOk result (λ token. IsSpelled token.kind (slice_range bytes.now token.start token.end)) }
     ensures fault { IfErr result (IsFaultBehind bytes.now at) }
 {
-    let (_, rest) = bytes.split_at(at as usize);
-    let gap = gap_of(rest);
-    let (_, text) = rest.split_at(gap.length);
-    let start = at + gap.length as u32;
+    let at = at as usize;
+    let start = gap_end(bytes, at);
+    let newline = has_line_terminator(&bytes[at..start]);
+    let (_, text) = bytes.split_at(start);
+    let start = start as u32;
     match lexeme(goal, text) {
-        Some((kind, size)) => Ok(Token {
+        Ok((kind, size)) => Ok(Token {
             kind,
             start,
             end: start + size as u32,
-            newline: gap.newline,
+            newline,
         }),
-        None => Err(LexFault::NoToken(start)),
+        Err(reach) => Err(fault_of(start, text, reach)),
     }
 }

@@ -1,5 +1,5 @@
-//! Tests of the crates that read ECMAScript.
+//! Tests of the reserved words. The program es_run shows the tokens.
 #![tactic(auto)]
 
 #[cfg(test)]
-mod token_tests;
+mod word_tests;

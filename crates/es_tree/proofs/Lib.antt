@@ -1,3 +1,4 @@
+pub mod Examples
 pub mod ReservedLaws
-pub mod SpellingLaws
+pub mod RunLaws
 pub mod TokenLaws

@@ -1,37 +1,37 @@
--- The classes of source characters, over ASCII.
-use Rattle.std.specs.Prelude.{ℕ, Bool, ◌||◌, ◌&&◌, not, ◌==◌, nat_le}
+-- The classes of source characters, by their code points: ECMA-262, clauses 12.2, 12.3 and 12.7.
+use Rattle.std.specs.Prelude.{ℕ, Bool, ◌||◌, ◌&&◌, not, ◌==◌, nat_lt, nat_le}
+use Rattle.std.specs.Char.{digit_value}
+use Rattle.unicode_ident.specs.Ident.{is_xid_start, is_xid_continue}
 
--- TAB and space
-abbrev pub is_white_space : ℕ → Bool
-is_white_space c = c == 9 || c == 32
+-- WhiteSpace: TAB, VT, FF, U+FEFF, and the characters of Unicode's category Zs
+unfoldable pub is_white_space : ℕ → Bool
+is_white_space c =
+    c == 0x9 || c == 0xB || c == 0xC || c == 0x20 || c == 0xA0 || c == 0x1680 || nat_le 0x2000 c && nat_le c 0x200A || c == 0x202F || c == 0x205F || c == 0x3000 || c == 0xFEFF
 
--- LF and CR
-abbrev pub is_line_terminator : ℕ → Bool
-is_line_terminator c = c == 10 || c == 13
+-- LineTerminator: LF, CR, U+2028 and U+2029
+unfoldable pub is_line_terminator : ℕ → Bool
+is_line_terminator c = c == 0xA || c == 0xD || c == 0x2028 || c == 0x2029
 
--- what stands between tokens
-abbrev pub is_gap_character : ℕ → Bool
+-- any character within a line
+unfoldable pub is_line_character : ℕ → Bool
+is_line_character c = not (is_line_terminator c)
+
+-- what stands alone between tokens
+unfoldable pub is_gap_character : ℕ → Bool
 is_gap_character c = is_white_space c || is_line_terminator c
 
--- `a` to `z`, `A` to `Z`, `$` and `_`
-abbrev pub is_identifier_start : ℕ → Bool
-is_identifier_start c = nat_le 97 c && nat_le c 122 || nat_le 65 c && nat_le c 90 || c == 36 || c == 95
+-- a Unicode scalar value: a code point that is no surrogate
+abbrev pub is_scalar : ℕ → Bool
+is_scalar c = nat_lt c 0xD800 || nat_le 0xE000 c && nat_lt c 0x110000
 
--- `0` to `9`
-abbrev pub is_decimal_digit : ℕ → Bool
-is_decimal_digit c = nat_le 48 c && nat_le c 57
+-- IdentifierStartChar: `$`, `_`, and the characters with XID_Start
+unfoldable pub is_identifier_start : ℕ → Bool
+is_identifier_start c = c == 0x24 || c == 0x5F || is_scalar c && is_xid_start c
 
-abbrev pub is_identifier_part : ℕ → Bool
-is_identifier_part c = is_identifier_start c || is_decimal_digit c
+-- IdentifierPartChar: `$`, U+200C, U+200D, and the characters with XID_Continue, of which `_` is one
+unfoldable pub is_identifier_part : ℕ → Bool
+is_identifier_part c = c == 0x24 || c == 0x200C || c == 0x200D || is_scalar c && is_xid_continue c
 
--- `"` and `'`
-abbrev pub is_quote : ℕ → Bool
-is_quote c = c == 34 || c == 39
-
--- what a string in these quotes holds: TAB and space to `~`, but for the quote itself and the backslash
-abbrev pub is_string_character : ℕ → ℕ → Bool
-is_string_character quote c = (c == 9 || nat_le 32 c && nat_le c 126) && not (c == quote) && not (c == 92)
-
--- `(`, `)`, `,` and `;`
-abbrev pub is_punctuator : ℕ → Bool
-is_punctuator c = c == 40 || c == 41 || c == 44 || c == 59
+-- the digits below a radix, from `0` on: `0` to `9`, and then letters, small or capital
+abbrev pub is_digit : ℕ → ℕ → Bool
+is_digit radix c = nat_le 0x30 c && nat_lt (digit_value c) radix

@@ -52,8 +52,8 @@ pub enum ProgramGoal {
 /// Why no token stands at a place.
 #[derive(Clone, Copy, Debug, PartialEq, Eq)]
 pub enum LexFault {
-    /// The bytes at this place are no UTF-8. No answer has it yet: it comes with texts beyond ASCII.
+    /// The bytes at this place are no UTF-8: reading came to them in a gap or a token.
     NotUtf8(u32),
-    /// No token begins at this place, which is behind white space and line terminators.
+    /// No token begins at this place, which is behind white space, line terminators and comments.
     NoToken(u32),
 }

@@ -1,7 +1,0 @@
-use Rattle.std.proofs.Common.{◌≡◌, ◌+◌, drop}
-use Rattle.std.specs.List.{prefix_len}
-use Rattle.es_tree.specs.Characters.{is_identifier_part}
-use Rattle.es_lexer.proofs.runs.identifier_length.Given as goal
-
-abbrev pub invariant-loop-i : goal.invariant-loop-i
-invariant-loop-i l = l.i + prefix_len is_identifier_part (drop l.i l.text) ≡ prefix_len is_identifier_part l.text

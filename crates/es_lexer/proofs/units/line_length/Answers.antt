@@ -1,0 +1,19 @@
+use Rattle.std.proofs.Common.{◌≡◌, length, drop, sym, ap, ◌∙◌, arith}
+use Rattle.es_tree.specs.Units as spec
+use Rattle.es_tree.proofs.RunLaws.{one_unit_more, no_unit_more}
+use Rattle.es_tree.specs.Characters.{is_line_character}
+use Rattle.es_lexer.proofs.units.line_length.Goals as goal
+
+pub returns-then-size-eq0-clause-value : goal.returns-then-size-eq0-clause-value
+returns-then-size-eq0-clause-value c =
+    let size : spec.of_class is_line_character (drop c.units.at c.args.text.now) ≡ c.line_character-size.result = ap (λ t. spec.of_class is_line_character t) (sym c.behind.ensures.value) ∙ sym c.line_character-size.ensures.value in
+    no_unit_more (spec.of_class is_line_character) c.args.text.now c.units.at _ (omega arith) c.units.invariant.so_far
+
+pub units-preserved : goal.units-preserved
+units-preserved c =
+    let size : spec.of_class is_line_character (drop c.units.at c.args.text.now) ≡ c.line_character-size.result = ap (λ t. spec.of_class is_line_character t) (sym c.behind.ensures.value) ∙ sym c.line_character-size.ensures.value in
+    let rest : length c.behind.result.now ≡ length (drop c.units.at c.args.text.now) = ap length c.behind.ensures.value in
+    record {
+      inside = omega arith;
+      so_far = one_unit_more (spec.of_class is_line_character) c.args.text.now c.units.at c.line_character-size.result _ size (omega arith) (omega arith) c.units.invariant.so_far;
+    }

@@ -1,0 +1,13 @@
+use Rattle.std.proofs.Common.{◌≡◌, ◌+◌, ◌-◌, ◌≤◌, length, drop}
+use Rattle.es_tree.specs.Units as spec
+use Rattle.es_tree.specs.Characters.{is_line_character}
+use Rattle.es_lexer.proofs.units.line_length.Given as goal
+
+abbrev pub invariant-units : goal.invariant-units
+invariant-units l = record {
+  inside : l.at ≤ length l.text;
+  so_far : l.at + spec.run (spec.of_class is_line_character) (drop l.at l.text) ≡ spec.run (spec.of_class is_line_character) l.text;
+}
+
+abbrev pub decreases-units : goal.decreases-units
+decreases-units l = length l.text - l.at
