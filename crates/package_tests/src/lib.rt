@@ -1,11 +1,5 @@
-//! Tests of the manifest's reader, with values from RFC 8259, and of its patterns.
+//! A test of the manifest's reader. The tables of cases stand in the crate `package_run`.
 #![tactic(auto)]
 
 #[cfg(test)]
-mod flags;
-#[cfg(test)]
-mod manifests;
-#[cfg(test)]
-mod show;
-#[cfg(test)]
-mod texts;
+mod names;
