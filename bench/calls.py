@@ -1,5 +1,5 @@
 #!/usr/bin/env python3
-"""Times `pack build` of one file of 4 MiB of calls against bench/plain.rs (rustc -O), in one run.
+"""Times `pack build` of one file of 4 MiB of calls against bench/plain_calls.rs (rustc -O), in one run.
 
 Prints the least processor time of each over 21 runs in turn, their ratio, and the most memory that pack took.
 Run it as: python3 bench/calls.py
@@ -42,7 +42,7 @@ def main():
     with tempfile.TemporaryDirectory() as top:
         top = Path(top)
         plain = top / "plain"
-        subprocess.run(["rustc", "-O", "-o", plain, TOP / "bench/plain.rs"], check=True)
+        subprocess.run(["rustc", "-O", "-o", plain, TOP / "bench/plain_calls.rs"], check=True)
         program = TOP / "crates/pack_program/out/pack_program"
         if not program.exists():
             subprocess.run([TOP / "bin/pack"], cwd=top, stdout=subprocess.DEVNULL)

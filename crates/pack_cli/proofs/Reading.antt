@@ -1,12 +1,13 @@
 -- How reading token by token comes to the body of a text.
-use Rattle.std.proofs.Common.{◌≡◌, ◌≢◌, ℕ, ◌<◌, ◌≤◌, true, false, List, [], ◌∷◌, ◌++◌, length, None, Some, Ok, Err, refl, sym, ap, subst, ◌∙◌, append_assoc, arith}
+use Rattle.std.proofs.Common.{◌≡◌, ◌≢◌, ℕ, ◌<◌, ◌≤◌, true, false, List, [], ◌∷◌, ◌++◌, length, None, Some, Ok, Err, refl, sym, ap, subst, ◌∙◌, append_assoc, arith, slice_range}
+use Rattle.std.specs.List.{list_all}
 use Rattle.std.proofs.lemmas.Grind.{common_steps}
 use Rattle.es_tree.specs.declared.tokens.Token.{Token}
 use Rattle.es_tree.specs.declared.tokens.TokenKind.TheVariants.{End}
 use Rattle.es_tree.specs.declared.tokens.Goal.TheVariants.{Operand}
 use Rattle.es_tree.specs.declared.tokens.LexFault.{LexFault}
 use Rattle.es_tree.specs.Lexical.{token_at}
-use Rattle.pack_cli.specs.Body.{HasTokens, IsBody, body_of, parts_of, text_of, tokens_behind}
+use Rattle.pack_cli.specs.Body.{is_blank, StandsBehind, HasTokens, IsBody, body_of, parts_of, text_of, tokens_behind}
 use Rattle.pack_cli.specs.Calls.{part_of}
 use Rattle.pack_cli.specs.Scanning.{step_of, put_before}
 use Rattle.pack_cli.specs.declared.calls.Place.{Place}
@@ -48,8 +49,8 @@ joins [] text at token tokens h = ap (λ w. text_of text token ++ w) (behind_som
 joins (c ∷ done) text at token tokens h = simp append_assoc
 
 -- reading is settled by the text: what stands at the place is this token
-same_token : (text : List ℕ) (at : ℕ) (token other : Token) → token_at text at Operand ≡ Ok token → token_at text at Operand ≡ Ok other → other ≡ token
-same_token text at token other e f = cc
+same_token : (text : List ℕ) (at : ℕ) (token other : Token) → token_at text at Operand ≡ Ok token → StandsBehind text at other → other ≡ token
+same_token text at token other e stands = let f = stands.read in cc
 
 -- the tokens from a place on begin with the one that stands there
 pub record Begins (text : List ℕ) (at : ℕ) (token : Token) (place next : Place) (tokens : List Token) : Type 0 where
@@ -76,8 +77,8 @@ first_token text at token place next (other ∷ rest) e not_end step read accept
 -- to go on by one token keeps the bodies
 pub goes_on : (text done new : List ℕ) (at : ℕ) (token : Token) (place next : Place) → SameBodies text at place done
     → token_at text at Operand ≡ Ok token → token.kind ≢ End → step_of place (part_of token.kind (text_of text token)) ≡ Some next
-    → 0 < length (text_of text token) → new ≡ done ++ put_before done at token ++ text_of text token → SameBodies text token.end next new
-goes_on text done new at token place next same e not_end step some is =
+    → list_all is_blank (slice_range text at token.start) ≡ true → 0 < length (text_of text token) → new ≡ done ++ put_before done at token ++ text_of text token → SameBodies text token.end next new
+goes_on text done new at token place next same e not_end step blank some is =
     subst (λ n. SameBodies text token.end next n) (sym is) (record {
       onward = λ body h.
           let g = same.onward body h in
@@ -85,7 +86,7 @@ goes_on text done new at token place next same e not_end step some is =
           record { tokens = b.rest; read = b.read; accepted = b.accepted; joined = g.joined ∙ ap (λ ts. done ++ added done text at ts) b.is ∙ joins done text at token b.rest some };
       back = λ body h. same.back body (record {
         tokens = token ∷ h.tokens;
-        read = (e, not_end, h.read);
+        read = (record { read = e; blank = blank }, not_end, h.read);
         accepted = rw step h.accepted;
         joined = h.joined ∙ sym (joins done text at token h.tokens some);
       });
@@ -128,11 +129,26 @@ steps_badly text done at token place same e not_end step body h =
 
 -- a place where no token stands
 no_token : (text : List ℕ) (at : ℕ) (fault : LexFault) (tokens : List Token) → token_at text at Operand ≡ Err fault → HasTokens text at tokens → ⊥
-no_token text at fault [] e read = let f = read.1 in cc
-no_token text at fault (other ∷ rest) e read = let f = read.0 in cc
+no_token text at fault [] e read = let f = read.1.read in cc
+no_token text at fault (other ∷ rest) e read = let f = read.0.read in cc
 
 pub reads_badly : (text done : List ℕ) (at : ℕ) (fault : LexFault) (place : Place) → SameBodies text at place done → token_at text at Operand ≡ Err fault → (body : List ℕ) → IsBody text body → ⊥
 reads_badly text done at fault place same e body h = let g = same.onward body h in no_token text at fault g.tokens e g.read
+
+-- a token behind something other than blanks
+not_blank : (text : List ℕ) (at : ℕ) (token other : Token) → token_at text at Operand ≡ Ok token → list_all is_blank (slice_range text at token.start) ≡ false → StandsBehind text at other → ⊥
+not_blank text at token other e f stands =
+    let same : other ≡ token = same_token text at token other e stands in
+    let g : list_all is_blank (slice_range text at token.start) ≡ true = subst (λ t. list_all is_blank (slice_range text at t.start) ≡ true) same stands.blank in
+    absurd cc
+
+no_blanks : (text : List ℕ) (at : ℕ) (token : Token) (tokens : List Token) → token_at text at Operand ≡ Ok token → list_all is_blank (slice_range text at token.start) ≡ false → HasTokens text at tokens → ⊥
+no_blanks text at token [] e f read = not_blank text at token read.0 e f read.1
+no_blanks text at token (other ∷ rest) e f read = not_blank text at token other e f read.0
+
+pub stands_badly : (text done : List ℕ) (at : ℕ) (token : Token) (place : Place) → SameBodies text at place done → token_at text at Operand ≡ Ok token
+    → list_all is_blank (slice_range text at token.start) ≡ false → (body : List ℕ) → IsBody text body → ⊥
+stands_badly text done at token place same e f body h = let g = same.onward body h in no_blanks text at token g.tokens e f g.read
 
 -- a token that holds bytes has a text
 pub some_text : (text : List ℕ) (token : Token) → token.start < token.end → token.end ≤ length text → 0 < length (text_of text token)

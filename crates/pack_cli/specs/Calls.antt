@@ -1,7 +1,7 @@
 -- What a list of simple calls is: statements NAME(ARGUMENTS); with names, strings and numbers as arguments.
-use Rattle.std.specs.Prelude.{ℕ, Bool, ◌||◌, List, [], ◌∷◌, ◌++◌, codes, nat_eq, if◌then◌else◌}
+use Rattle.std.specs.Prelude.{ℕ, Bool, ◌||◌, ◌&&◌, not, ◌==◌, nat_le, List, [], ◌∷◌, ◌++◌, codes, nat_eq, if◌then◌else◌}
 use Rattle.std.specs.Str.{bytes_eq}
-use Rattle.std.specs.List.{starts_with}
+use Rattle.std.specs.List.{starts_with, list_all}
 use Rattle.es_tree.specs.declared.tokens.TokenKind.{TokenKind}
 use Rattle.es_tree.specs.declared.tokens.TokenKind.TheVariants as kind
 use Rattle.es_tree.specs.declared.tokens.ProgramGoal.TheVariants.{Script}
@@ -23,12 +23,23 @@ punctuator_part word =
     else (if bytes_eq word (codes ",") then Comma
     else (if bytes_eq word (codes ";") then Semicolon else Foreign)))
 
--- what a token is in a list of calls, by its kind and its text
+-- TAB, and space to `~` but for the backslash
+abbrev pub is_plain : ℕ → Bool
+is_plain c = c == 9 || nat_le 32 c && nat_le c 126 && not (c == 92)
+
+abbrev pub is_decimal : ℕ → Bool
+is_decimal c = nat_le 48 c && nat_le c 57
+
+-- a literal all of whose bytes pass
+abbrev pub literal_part : (ℕ → Bool) → List ℕ → Part
+literal_part test word = if list_all test word then Literal else Foreign
+
+-- what a token is in a list of calls, by its kind and its text: names and strings are over plain ASCII and without escapes, numbers are digits alone
 abbrev pub part_of : TokenKind → List ℕ → Part
-part_of kind.IdName word = name_part word
+part_of kind.IdName word = if list_all is_plain word then name_part word else Foreign
 part_of kind.Private word = Foreign
-part_of kind.Number word = Literal
-part_of kind.String word = Literal
+part_of kind.Number word = literal_part is_decimal word
+part_of kind.String word = literal_part is_plain word
 part_of kind.Template word = Foreign
 part_of kind.Regex word = Foreign
 part_of kind.Punctuator word = punctuator_part word

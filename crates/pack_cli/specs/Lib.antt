@@ -6,5 +6,4 @@ pub mod Numbers
 pub mod Output
 pub mod Round
 pub mod Run
-pub mod Runtime
 pub mod Scanning

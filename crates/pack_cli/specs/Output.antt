@@ -5,7 +5,7 @@ use Rattle.pk_base.specs.Calls.{Held}
 use Rattle.pk_base.specs.Outside.{set_at}
 use Rattle.pk_base.specs.declared.outside.Call.{Call}
 use Rattle.pk_base.specs.declared.outside.Call.TheVariants.{Put}
-use Rattle.pack_cli.specs.Runtime.{runtime}
+use Rattle.emit_chunk.specs.Runtime.{runtime}
 
 -- the factory of the module numbered 0, whose body has no site
 abbrev pub factory_of : List ℕ → List ℕ

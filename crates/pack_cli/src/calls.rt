@@ -1,6 +1,7 @@
 // A text that is a list of simple calls, and its body.
 ghost use Rattle.std.specs.Prelude.{◌≡◌, ◌≤◌, ◌++◌, length, IfOk, OnOk};
-ghost use Rattle.pack_cli.specs.Body.{ReadsCalls};
+ghost use Rattle.std.specs.List.{list_all};
+ghost use Rattle.pack_cli.specs.Body.{ReadsCalls, is_blank};
 ghost use Rattle.pack_cli.specs.Calls as spec;
 ghost use Rattle.pack_cli.specs.Scanning.{put_before, step_of};
 
@@ -33,6 +34,42 @@ pub enum Place {
     BehindClose,
 }
 
+fn is_blank(c: u8) -> bool
+    ensures { result ≡ is_blank c }
+{
+    c == b'\t' || c == b'\n' || c == b'\r' || c == b' '
+}
+
+fn is_plain(c: u8) -> bool
+    ensures { result ≡ spec.is_plain c }
+{
+    c == b'\t' || b' ' <= c && c <= b'~' && c != b'\\'
+}
+
+fn is_decimal(c: u8) -> bool
+    ensures { result ≡ spec.is_decimal c }
+{
+    b'0' <= c && c <= b'9'
+}
+
+fn are_blank(gap: &[u8]) -> bool
+    ensures { result ≡ list_all is_blank gap.now }
+{
+    gap.iter().all(|c| is_blank(*c))
+}
+
+fn are_plain(word: &[u8]) -> bool
+    ensures { result ≡ list_all spec.is_plain word.now }
+{
+    word.iter().all(|c| is_plain(*c))
+}
+
+fn are_decimal(word: &[u8]) -> bool
+    ensures { result ≡ list_all spec.is_decimal word.now }
+{
+    word.iter().all(|c| is_decimal(*c))
+}
+
 fn is_special(word: &[u8]) -> bool
     ensures { result ≡ spec.is_special word.now }
 {
@@ -44,13 +81,14 @@ fn part_of(kind: TokenKind, word: &[u8]) -> Part
 {
     match kind {
         TokenKind::IdName => {
-            if is_reserved(word, ProgramGoal::Script) || is_special(word) {
+            if !are_plain(word) || is_reserved(word, ProgramGoal::Script) || is_special(word) {
                 Part::Foreign
             } else {
                 Part::Name
             }
         }
-        TokenKind::Number | TokenKind::String => Part::Literal,
+        TokenKind::Number if are_decimal(word) => Part::Literal,
+        TokenKind::String if are_plain(word) => Part::Literal,
         TokenKind::Punctuator => match word {
             b"(" => Part::Open,
             b")" => Part::Close,
@@ -58,8 +96,7 @@ fn part_of(kind: TokenKind, word: &[u8]) -> Part
             b";" => Part::Semicolon,
             _ => Part::Foreign,
         },
-        TokenKind::Private | TokenKind::Template | TokenKind::Regex | TokenKind::End =>
-            Part::Foreign,
+        _ => Part::Foreign,
     }
 }
 
@@ -106,6 +143,9 @@ pub fn read_calls(alloc: Global, text: &[u8]) -> Result<Option<Bytes>, AllocErro
         let Ok(token) = next_token(text, at, Goal::Operand) else {
             return Ok(None);
         };
+        if !are_blank(&text[at as usize..token.start as usize]) {
+            return Ok(None);
+        }
         if let TokenKind::End = token.kind {
             if let Place::Between = place {
                 return Ok(Some(Bytes::from_vec(body)));

@@ -1,18 +1,10 @@
 // The text of an entry file.
 ghost use Rattle.std.specs.Prelude.{◌≡◌, ◌++◌, IfOk, OnOk};
 ghost use Rattle.pack_cli.specs.Output.{factory_of, main_of};
-ghost use Rattle.pack_cli.specs.Runtime.{runtime};
 
-use crate::runtime::RUNTIME;
+use emit_chunk::runtime;
 use pk_base::Bytes;
 use std::alloc::{AllocError, Global};
-
-#[tactic(auto, unfolding(crate::specs::Runtime::runtime))]
-fn runtime_text() -> &'static [u8]
-    ensures { result.now ≡ runtime }
-{
-    RUNTIME
-}
 
 // Appends the factory of the one module.
 #[tactic(auto, using(crate::proofs::Texts::factory_joins))]
@@ -34,7 +26,7 @@ fn append_factory(alloc: Global, file: &mut Vec<u8>, body: &[u8]) -> Result<(), 
 pub fn main_file(alloc: Global, body: &[u8]) -> Result<Bytes, AllocError>
     ensures { IfOk result (λ file. file ≡ main_of body.now) }
 {
-    let mut file = Vec::from_slice(alloc, runtime_text())?;
+    let mut file = Vec::from_slice(alloc, runtime())?;
     file.extend_from_slice(b"__webpack_start__({ g: [[0]], c: [] }, [\n")?;
     append_factory(alloc, &mut file, body)?;
     file.extend_from_slice(b"\n]);\n")?;

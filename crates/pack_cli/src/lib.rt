@@ -8,7 +8,6 @@ mod look;
 mod places;
 mod print;
 mod rounds;
-mod runtime;
 mod status;
 mod top;
 

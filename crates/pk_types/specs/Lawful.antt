@@ -1,5 +1,5 @@
 -- What a module of each kind may have in its facts.
-use Rattle.std.specs.Prelude.{◌≡◌, ℕ, List, [], map, nat_eq, false, true, IsSome, IsTrue, slice_get, IfSome}
+use Rattle.std.specs.Prelude.{◌≡◌, ℕ, List, [], map, nat_eq, false, IsSome, IsTrue, slice_get, IfSome}
 use Rattle.std.specs.List.{All, Contains, IsDistinct}
 use Rattle.std.specs.Str.{bytes_eq}
 use Rattle.pk_types.specs.declared.form.Form.TheVariants as form
