@@ -6,3 +6,4 @@ pub mod Places
 pub mod ReservedWords
 pub mod Units
 pub mod Utf8
+pub mod Yield
