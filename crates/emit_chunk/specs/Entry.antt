@@ -31,7 +31,7 @@ is_root plan number = slice_index plan.hoists.root number == number
 abbrev pub modules_of : Plan → ℕ → List ℕ
 modules_of plan chunk = slice_index_or plan.chunks.modules chunk []
 
--- the scopes of a chunk, by number
+-- the scopes of a chunk, in the plan's order
 abbrev pub roots_of : Plan → ℕ → List ℕ
 roots_of plan chunk = filter (is_root plan) (modules_of plan chunk)
 

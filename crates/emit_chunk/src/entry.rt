@@ -159,7 +159,7 @@ fn roots_among(alloc: Global, plan: &Plan, modules: &[u32]) -> Result<Vec<u32>, 
     Ok(roots)
 }
 
-// The scopes of a chunk, by number.
+// The scopes of a chunk, in the plan's order.
 #[tactic(auto, using(crate::proofs::Within::roots_below))]
 fn roots_of(alloc: Global, graph: &Graph, plan: &Plan, chunk: u32) -> Result<Vec<u32>, AllocError>
     requires range { InRange graph.now plan.now }

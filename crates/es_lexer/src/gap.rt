@@ -9,6 +9,7 @@ use crate::escapes::begins;
 use crate::units::{Unit, line_length, run};
 use crate::utf8::{behind, byte, character};
 
+#[inline(always)]
 #[tactic(auto, unfolding(es_tree::specs::Units::of_class))]
 fn gap_character(text: &[u8]) -> usize
     ensures value { result ≡ spec.of_class characters.is_gap_character text.now }
@@ -46,6 +47,7 @@ fn block_comment(text: &[u8]) -> usize
     }
 }
 
+#[inline(always)]
 #[tactic(auto, unfolding(es_tree::specs::Units::gap_unit))]
 fn gap_unit(text: &[u8]) -> usize
     ensures value { result ≡ spec.gap_unit text.now }
@@ -60,6 +62,7 @@ fn gap_unit(text: &[u8]) -> usize
 }
 
 // How many bytes of white space, line terminators and comments a text begins with.
+#[inline(always)]
 fn gap_length(text: &[u8]) -> usize
     ensures value { result ≡ spec.run spec.gap_unit text.now }
     ensures within { result ≤ length text.now }

@@ -29,6 +29,7 @@ fn stopped(text: &[u8], size: usize) -> usize
     }
 }
 
+#[inline(always)]
 #[tactic(auto, unfolding(es_tree::specs::Lexical::identifier_length))]
 fn identifier_length(text: &[u8]) -> usize
     ensures value { result ≡ spec.identifier_length text.now }
@@ -48,6 +49,7 @@ fn some_of(kind: TokenKind, size: usize) -> Lexeme
     if size == 0 { Err(0) } else { Ok((kind, size)) }
 }
 
+#[inline(always)]
 #[tactic(auto, unfolding(es_tree::specs::Lexical::string))]
 fn string(text: &[u8]) -> Lexeme
     requires quoted { 0 < utf8.byte text.now 0 }

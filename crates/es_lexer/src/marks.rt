@@ -98,6 +98,7 @@ fn is_triple(a: u8, b: u8, c: u8) -> bool
 }
 
 /// How many bytes the punctuator has with which a text begins: the longest.
+#[inline(always)]
 #[tactic(auto, unfolding(es_tree::specs::Marks::mark_length))]
 pub fn mark_length(text: &[u8]) -> usize
     ensures value { result ≡ spec.mark_length text.now }

@@ -4,7 +4,7 @@ ghost use Rattle.es_tree.specs.ReservedWords as spec;
 
 use es_tree::ProgramGoal;
 
-/// Whether an identifier name is a reserved word, and so no name, in programs of this kind.
+/// Whether an identifier name, given as it is decoded, is a reserved word, and so no name, in programs of this kind.
 #[tactic(auto, using(es_tree::proofs::ReservedLaws::is_reserved_in_scripts, es_tree::proofs::ReservedLaws::is_reserved_in_modules))]
 pub fn is_reserved(word: &[u8], goal: ProgramGoal) -> bool
     ensures { result ≡ spec.is_reserved word.now goal }

@@ -39,6 +39,7 @@ fn comment_character(text: &[u8]) -> usize
     }
 }
 
+#[inline(always)]
 #[tactic(auto, unfolding(es_tree::specs::Units::of_class))]
 fn part_character(text: &[u8]) -> usize
     ensures value { result ≡ spec.of_class characters.is_identifier_part text.now }
@@ -48,6 +49,7 @@ fn part_character(text: &[u8]) -> usize
     if is_identifier_part(code) { size } else { 0 }
 }
 
+#[inline(always)]
 #[tactic(auto, unfolding(es_tree::specs::Units::name_unit))]
 fn name_part(text: &[u8]) -> usize
     ensures value { result ≡ spec.name_unit characters.is_identifier_part text.now }
@@ -62,6 +64,7 @@ fn name_part(text: &[u8]) -> usize
 }
 
 /// How many bytes the start of an identifier has with which a text begins.
+#[inline(always)]
 #[tactic(auto, unfolding(es_tree::specs::Units::name_unit, es_tree::specs::Units::of_class))]
 pub fn name_start(text: &[u8]) -> usize
     ensures value { result ≡ spec.name_unit characters.is_identifier_start text.now }
@@ -75,6 +78,7 @@ pub fn name_start(text: &[u8]) -> usize
     if is_identifier_start(code) { size } else { 0 }
 }
 
+#[inline(always)]
 #[tactic(auto, unfolding(es_tree::specs::Units::digit_unit))]
 fn digit_unit(radix: u32, text: &[u8]) -> usize
     ensures value { result ≡ spec.digit_unit radix text.now }
@@ -89,6 +93,7 @@ fn digit_unit(radix: u32, text: &[u8]) -> usize
     }
 }
 
+#[inline(always)]
 #[tactic(auto, unfolding(es_tree::specs::Units::string_unit))]
 fn string_unit(quote: u8, text: &[u8]) -> usize
     ensures value { result ≡ spec.string_unit quote text.now }
@@ -146,6 +151,7 @@ fn size_of(unit: Unit, text: &[u8]) -> usize
 }
 
 /// How many bytes of identifier parts, or escapes of them, a text begins with.
+#[inline(always)]
 pub fn name_length(text: &[u8]) -> usize
     ensures value { result ≡ spec.run (spec.name_unit characters.is_identifier_part) text.now }
     ensures within { result ≤ length text.now }
@@ -176,6 +182,7 @@ pub fn line_length(text: &[u8]) -> usize
 }
 
 /// How many bytes of such units a text begins with.
+#[inline(always)]
 pub fn run(unit: Unit, text: &[u8]) -> usize
     ensures value { result ≡ spec.run (unit_of unit) text.now }
     ensures within { result ≤ length text.now }

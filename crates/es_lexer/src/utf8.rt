@@ -86,7 +86,7 @@ fn wide_character(a: u32, rest: &[u8]) -> (u32, usize)
 }
 
 /// The code point and the bytes of the character with which a text begins: no bytes where there is none.
-#[inline]
+#[inline(always)]
 #[tactic(auto, unfolding(es_tree::specs::Utf8::character))]
 pub fn character(text: &[u8]) -> (u32, usize)
     ensures value { result ≡ spec.character text.now }

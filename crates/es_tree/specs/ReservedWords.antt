@@ -4,7 +4,7 @@ use Rattle.std.specs.List.{list_any}
 use Rattle.es_tree.specs.declared.tokens.ProgramGoal.{ProgramGoal}
 use Rattle.es_tree.specs.declared.tokens.ProgramGoal.TheVariants.{Script, Module}
 
--- in scripts and in modules: ECMA-262's reserved words, with `let` and `yield`, which it reserves in strict code
+-- in scripts and in modules: the reserved words of ECMA-262, clause 12.7.2, `await` and `yield` among them, and `let`, which it reserves in strict code; none of the three is a name here
 unfoldable pub words_of_scripts : List (List ℕ)
 words_of_scripts =
     codes "await" ∷ codes "break" ∷ codes "case" ∷ codes "catch" ∷ codes "class" ∷ codes "const" ∷ codes "continue" ∷ codes "debugger" ∷ codes "default" ∷ codes "delete" ∷ codes "do"

@@ -1,4 +1,4 @@
--- A graph whose numbers, facts and labels fit one another. That each label is a written path is said where paths stand.
+-- A graph whose numbers, facts and labels fit one another.
 use Rattle.std.specs.Prelude.{◌≡◌, length, map}
 use Rattle.std.specs.List.{All, IsDistinct}
 use Rattle.std.specs.Str.{bytes_eq}
@@ -20,6 +20,7 @@ pub record RowFits (graph : Graph) (row : Row) : Type 0 where
   pub each : length row.targets ≡ length row.facts.requests
   pub targets : ArePlacesIn graph.rows row.targets
 
+-- That each label is a written path is left out: it is said where paths stand.
 pub record Fits (graph : Graph) : Type 0 where
   pub rows : All (RowFits graph) graph.rows
   pub entries : ArePlacesIn graph.rows graph.entries

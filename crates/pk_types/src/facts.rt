@@ -38,9 +38,9 @@ pub struct Facts {
     /// What the module declares at its top.
     pub bindings: Sequence<Binding>,
     pub sites: Sequence<Site>,
-    /// The names that it uses without declaring them, in byte order.
+    /// The names that it uses without declaring them, in byte order, each once.
     pub free: Sequence<Name>,
-    /// The names that are declared within its scopes, in byte order.
+    /// The names that its inner scopes declare (the top is none of these), in byte order, each once.
     pub inner: Sequence<Name>,
 }
 
@@ -56,7 +56,8 @@ pub struct Request {
 pub struct ImportEntry {
     pub request: u32,
     pub name: Option<Name>,
-    /// The byte place at which it begins.
+    /// The byte place at which its specifier in braces begins; outside braces that of the `*` of a namespace, or of the
+    /// bound name.
     pub place: u32,
 }
 
@@ -65,7 +66,8 @@ pub struct ImportEntry {
 pub struct ExportEntry {
     pub name: Name,
     pub origin: Origin,
-    /// The byte place at which it begins.
+    /// The byte place at which its specifier in braces begins; outside braces that of the `*` of a namespace, of the
+    /// word `default`, or of the bound name.
     pub place: u32,
 }
 

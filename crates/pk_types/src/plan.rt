@@ -1,7 +1,7 @@
 use crate::sequence::Sequence;
 
 /// The groups of modules that are loaded together: one for each entry in order, and then one for each module that an
-/// `import()` leads to, by number.
+/// `import()` of a reached module leads to, by number.
 #[derive(Debug, Drop)]
 pub struct Groups {
     /// The module of each group, from which the others of it are reached.
