@@ -1,5 +1,6 @@
 //! Builds the graphs that the input describes, and prints their modules by number. A block of the input begins with
-//! its entries, and in each other line is a path and what its requests lead to. `*9` stands for nine paths.
+//! its entries, and in each other line is a path and what its requests lead to, or behind a `?` paths whose numbers are
+//! printed. `*9` stands for nine paths.
 #![tactic(auto)]
 
 ghost use Rattle.std.specs.Prelude.{◌≡◌, length, IfOk};
@@ -104,7 +105,31 @@ fn add_wanted(
     builder.add(facts, targets, flagged, size)
 }
 
-fn build(alloc: Global, block: &str) -> Result<Graph, GraphFault> {
+// The numbers of the paths that the block asks for.
+fn numbers_of(
+    alloc: Global,
+    block: &str,
+    builder: &GraphBuilder,
+) -> Result<Vec<Option<u32>>, AllocError> {
+    let mut numbers = Vec::new(alloc);
+    for line in block.lines() {
+        if let Some(words) = line.strip_prefix("? ") {
+            for path in paths_of(alloc, words)? {
+                numbers.push(builder.number_of(&path))?;
+            }
+        }
+    }
+    Ok(numbers)
+}
+
+// A graph, and the numbers that were asked for.
+#[derive(Drop)]
+struct Built {
+    graph: Graph,
+    numbers: Vec<Option<u32>>,
+}
+
+fn build(alloc: Global, block: &str) -> Result<Built, GraphFault> {
     let entries = paths_of(alloc, block.lines().next().unwrap_or(""))?;
     if entries.len() >= 100 {
         return Err(GraphFault::TooMany);
@@ -112,7 +137,9 @@ fn build(alloc: Global, block: &str) -> Result<Graph, GraphFault> {
     let mut builder = GraphBuilder::new(alloc, entries)?;
     for _ in 0..ROUNDS {
         let Some(wanted) = builder.next_wanted() else {
-            return Ok(builder.finish());
+            let numbers = numbers_of(alloc, block, &builder)?;
+            let graph = builder.finish();
+            return Ok(Built { graph, numbers });
         };
         let targets = targets_of(alloc, block, builder.path_of(wanted))?;
         if let Err(GraphFault::TooMany) = add_wanted(alloc, &mut builder, targets) {
@@ -137,13 +164,20 @@ fn show_row(rt: &impl Print, number: usize, row: &Row) -> io::Result<()> {
     println!(rt; " size {}", row.size)
 }
 
-fn show(rt: &impl Print, graph: &Graph) -> io::Result<()> {
+fn show(rt: &impl Print, built: &Built) -> io::Result<()> {
+    let graph = &built.graph;
     for entry in graph.entries.as_slice() {
         print!(rt; "entry {entry} ")?;
     }
     println!(rt; "of {} modules", graph.rows.len())?;
     for (number, row) in graph.rows.as_slice().iter().enumerate().take(SHOWN) {
         show_row(rt, number, row)?;
+    }
+    for number in &built.numbers {
+        match number {
+            Some(number) => println!(rt; "number {number}")?,
+            None => println!(rt; "no number")?,
+        }
     }
     Ok(())
 }
@@ -152,7 +186,7 @@ fn main(rt: HostRuntime) -> io::Result<()> {
     let text = io::read_to_string(rt.alloc(), rt.stdin())?;
     for block in text.split("\n\n") {
         match build(rt.alloc(), block) {
-            Ok(graph) => show(&rt, &graph)?,
+            Ok(built) => show(&rt, &built)?,
             Err(GraphFault::TooMany) => println!(rt; "too many")?,
             Err(GraphFault::NoMemory) => println!(rt; "no memory")?,
         }

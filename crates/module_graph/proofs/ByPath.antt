@@ -1,10 +1,11 @@
 -- From the numbers of modules to their paths.
-use Rattle.std.proofs.Common.{◌≡◌, ℕ, zero, suc, ◌<◌, inl, inr, List, [], ◌∷◌, map, get_or, Option, Some, None, slice_get, option_map, option_and_then, refl, sym, ap, subst, ◌∙◌}
+use Rattle.std.proofs.Common.{◌≡◌, ℕ, zero, suc, ◌<◌, inl, inr, List, [], ◌∷◌, map, get_or, All, Option, Some, None, slice_get, option_map, option_and_then, refl, sym, ap, subst, ◌∙◌}
 use Rattle.std.specs.List.{IsDistinct}
 use Rattle.std.specs.Str.{bytes_eq}
 use Rattle.std.specs.Cmp.Lexicographic.{bytes_decides}
 use Rattle.std.proofs.lemmas.Bool.{true≢false, cases_order}
 use Rattle.std.proofs.lemmas.List.{length-map}
+use Rattle.std.proofs.lemmas.List.Elements.{All-contains}
 use Rattle.std.proofs.lemmas.Map.Keys.{apart_from_distinct}
 use Rattle.std.proofs.lemmas.Option.{same_Some, none-some, slice_get-map, option_and_then_some, slice_get_within, slice_get-get_or, get_or_from_slice_get}
 use Rattle.pk_types.specs.declared.graph.Graph.{Graph}
@@ -100,16 +101,29 @@ module _ (entries : List (List ℕ)) (leads : List ℕ → List (List ℕ)) (gra
             least.least other (seen.2 ∙ sym seen.1 ∙ e);
       }
 
+  least_by_path : IsDistinct bytes_eq (labels_of graph) → (m : ℕ) (path address : List ℕ) → slice_get (labels_of graph) m ≡ Some path → IsLeastAddress graph m address → IsLeastOf entries leads path address
+  least_by_path distinct m path address e least =
+      let seen = path_there address m least.has in
+      record {
+        has = seen.2 ∙ sym seen.1 ∙ e;
+        least = λ other h. let there = number_there other path h in
+            least.least other (subst (λ i. HasAddress graph i other) (one_number (labels_of graph) distinct there.0 m path there.2 e) there.1);
+      }
+
+  least_of : IsDistinct bytes_eq (labels_of graph) → IsModuleOrder graph → All (λ path. (address : List ℕ) × IsLeastOf entries leads path address) (labels_of graph)
+  least_of distinct order = λ m d h.
+      let l = order.addressed m (subst (λ n. m < n) (length-map graph.rows label_of) h) in
+      (l.0, least_by_path distinct m (get_or (labels_of graph) m d) l.0 (slice_get-get_or (labels_of graph) m d h) l.1)
+
   pub is_module_graph : IsDistinct bytes_eq (labels_of graph) → IsModuleOrder graph → IsModuleGraph entries leads graph
   is_module_graph distinct order = record {
     modules = λ path. (
-      (λ c. let at : slice_get (labels_of graph) c.0 ≡ Some path = slice_get-get_or (labels_of graph) c.0 path c.1 ∙ ap Some c.2 in
-          let l = order.addressed c.0 (subst (λ n. c.0 < n) (length-map graph.rows label_of) c.1) in
-          let seen = path_there l.0 c.0 l.1.has in
-          (l.0, seen.2 ∙ sym seen.1 ∙ at)),
+      (λ c. let l = All-contains (λ p. (address : List ℕ) × IsLeastOf entries leads p address) (labels_of graph) path (least_of distinct order) c in
+          (l.0, l.1.has)),
       (λ a. let there = number_there a.0 path a.1 in
           (there.0, slice_get_within (labels_of graph) there.0 path there.2, get_or_from_slice_get (labels_of graph) there.0 path path there.2)),
     );
+    addressed = least_of distinct order;
     ascending = λ m n p q before after l e f a b. order.ascending m n before after l (subst (λ i. n < i) (length-map graph.rows label_of) (slice_get_within (labels_of graph) n q f))
         (least_by_number distinct m p before e a) (least_by_number distinct n q after f b);
   }

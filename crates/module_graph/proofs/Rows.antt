@@ -1,6 +1,8 @@
 -- Rows whose targets are seen in order.
-use Rattle.std.proofs.Common.{ℕ, suc, ◌+◌, ◌<◌, ◌≤◌, max, List, [], ◌∷◌, ◌++◌, length, All, sym, ap, subst, arith}
+use Rattle.std.proofs.Common.{◌≡◌, ℕ, suc, ◌+◌, ◌<◌, ◌≤◌, max, List, [], ◌∷◌, ◌++◌, length, map, All, sym, ap, subst, arith}
 use Rattle.std.proofs.lemmas.List.Elements.{All-nil, All-cons, All-weaker}
+use Rattle.pk_types.specs.declared.graph.Row.{Row}
+use Rattle.module_graph.specs.Building.{leaf_of}
 use Rattle.module_graph.specs.Sightings.{count_after, AreSeenInOrder, RowsAreSeenInOrder}
 
 -- one row more
@@ -9,6 +11,13 @@ rows_push [] row count known targets e h order =
     let wanted : row < count = omega arith in
     (wanted, subst (λ n. AreSeenInOrder n targets) (sym e) order, ap (λ n. count_after n targets) e)
 rows_push (first ∷ rows) row count known targets s h order = (s.0, s.1, rows_push rows (suc row) (count_after count first) known targets s.2 (omega arith) order)
+
+-- leaves for the known modules that have no row
+pub rows_with_leaves : (rows paths : List (List ℕ)) (row count known : ℕ) → RowsAreSeenInOrder row count rows known → row + length rows + length paths ≡ known
+    → RowsAreSeenInOrder row count (rows ++ map (λ (leaf : Row). leaf.targets) (map leaf_of paths)) known
+rows_with_leaves [] [] row count known e h = e
+rows_with_leaves [] (path ∷ paths) row count known e h = (omega arith, tt, rows_with_leaves [] paths (suc row) count known e (omega arith))
+rows_with_leaves (targets ∷ rows) paths row count known s h = (s.0, s.1, rows_with_leaves rows paths (suc row) (count_after count targets) known s.2 (omega arith))
 
 pub no_fewer : (numbers : List ℕ) (count : ℕ) → count ≤ count_after count numbers
 no_fewer [] count = omega arith

@@ -1,12 +1,15 @@
 -- Known paths, and the numbers of those that are seen.
 use Rattle.std.proofs.Common.{◌≡◌, ℕ, zero, suc, ◌+◌, ◌<◌, ◌≤◌, max, ◌||◌, not, Bool, true, false, cond, List, [], ◌∷◌, ◌++◌, length, take, map, get_or, Some, slice_get, refl, sym, ap, subst, ◌∙◌, arith}
-use Rattle.std.specs.List.{IsDistinct, list_any, position_or_len}
+use Rattle.std.specs.List.{Contains, IsDistinct, list_any, position, position_or_len}
 use Rattle.std.specs.Str.{bytes_eq}
 use Rattle.std.specs.Cmp.Lexicographic.{bytes_decides, nat_list_eq_equiv}
 use Rattle.std.proofs.lemmas.Map.Keys.{IsDistinct-push}
 use Rattle.std.proofs.lemmas.Bool.{true≢false, or_left, or_right}
 use Rattle.std.proofs.lemmas.List.{append-nil, append_assoc, length-append, length_push, map-append, take_at, take_more}
 use Rattle.std.proofs.lemmas.List.Folds.{list_any-append}
+use Rattle.std.proofs.lemmas.List.Quantifiers.{position-Some}
+use Rattle.std.proofs.lemmas.Map.Views.{list_any-from_Contains}
+use Rattle.std.proofs.lemmas.Option.{slice_get-get_or}
 use Rattle.module_graph.specs.Known.{with_path, with_paths, number_in, numbers_in}
 use Rattle.module_graph.specs.Sightings.{count_after, AreSeenInOrder}
 
@@ -60,6 +63,15 @@ at_number (x ∷ xs) path h = by (at_number xs path) (bytes_eq path x) refl
     by rest false e =
         let next : 1 + number_in xs path ≡ suc (number_in xs path) = omega arith in
         ap (λ b. slice_get (x ∷ xs) (cond (not b) (1 + number_in xs path) 0)) e ∙ ap (λ n. slice_get (x ∷ xs) n) next ∙ rest (sym (ap (λ b. b || list_any (bytes_eq path) xs) e) ∙ h)
+
+-- what a look-up of a path finds
+pub found : (known : List (List ℕ)) (path : List ℕ) (n : ℕ) → position (bytes_eq path) known ≡ Some n → slice_get known n ≡ Some path
+found known path n e =
+    let at = position-Some (bytes_eq path) known n path e in
+    slice_get-get_or known n path at.0 ∙ ap Some (sym ((bytes_decides path (get_or known n path)).0 at.1))
+
+pub not_found : (known : List (List ℕ)) (path : List ℕ) → list_any (bytes_eq path) known ≡ false → Contains known path → ⊥
+not_found known path e h = true≢false (sym (list_any-from_Contains nat_list_eq_equiv path known h) ∙ e)
 
 -- ---- one path
 

@@ -1,6 +1,8 @@
 -- What is known of a graph while its modules are added, one after another.
-use Rattle.std.specs.Prelude.{ℕ, ◌<◌, List, [], Bool, length, slice_index_or}
+use Rattle.std.specs.Prelude.{ℕ, ◌<◌, List, [], ◌++◌, Bool, false, length, drop, map, slice_index_or}
 use Rattle.pk_types.specs.declared.facts.Facts.{Facts}
+use Rattle.pk_types.specs.declared.facts.Kind.TheVariants.{Cjs}
+use Rattle.pk_types.specs.declared.graph.Graph.{Graph}
 use Rattle.pk_types.specs.declared.graph.Row.{Row}
 use Rattle.module_graph.specs.Known.{numbers_in}
 
@@ -26,4 +28,36 @@ row_of building known facts targets flagged size = record {
   targets = numbers_in known targets;
   flagged = flagged;
   size = size;
+}
+
+-- facts without an item; their kind is arbitrary
+abbrev pub no_facts : Facts
+no_facts = record {
+  kind = Cjs;
+  requests = [];
+  order = [];
+  imports = [];
+  exports = [];
+  stars = [];
+  bindings = [];
+  sites = [];
+  free = [];
+  inner = [];
+}
+
+-- the row of a module of which the path alone is known; its flag and its size are arbitrary
+abbrev pub leaf_of : List ℕ → Row
+leaf_of path = record {
+  label = path;
+  facts = no_facts;
+  targets = [];
+  flagged = false;
+  size = 0;
+}
+
+-- the graph of what is known: the rows that were added, and behind them a leaf for each further path
+abbrev pub so_far : Building → Graph
+so_far building = record {
+  rows = building.rows ++ map leaf_of (drop (length building.rows) building.known);
+  entries = building.entries;
 }

@@ -29,7 +29,9 @@ pub record LeadsTo (entries : List (List ℕ)) (leads : List ℕ → List (List 
   pub first : map (slice_get (labels_of graph)) graph.entries ≡ map Some entries
   pub next : All (λ row. map (slice_get (labels_of graph)) row.targets ≡ map Some (leads row.label)) graph.rows
 
+-- the modules are the paths that have an address, each has a least one, and a module of a smaller number has one that comes before
 pub record IsModuleGraph (entries : List (List ℕ)) (leads : List ℕ → List (List ℕ)) (graph : Graph) : Type 0 where
   pub modules : (path : List ℕ) → Contains (labels_of graph) path ↔ ((address : List ℕ) × (path_at entries leads address ≡ Some path))
+  pub addressed : All (λ path. (address : List ℕ) × IsLeastOf entries leads path address) (labels_of graph)
   pub ascending : (m n : ℕ) (p q before after : List ℕ) → m < n → slice_get (labels_of graph) m ≡ Some p → slice_get (labels_of graph) n ≡ Some q
       → IsLeastOf entries leads p before → IsLeastOf entries leads q after → ComesBefore before after

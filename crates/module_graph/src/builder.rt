@@ -1,8 +1,8 @@
 ghost use Rattle.std.specs.Prelude.{◌≡◌, ◌<◌, ◌≤◌, ◌^◌, ℕ, List, [], ◌∷◌, ◌++◌, length, map, take, slice_get, Some, Err, IsTrue, IfOk, OnOk, OnErr, MatchOption};
-ghost use Rattle.std.specs.List.{All};
+ghost use Rattle.std.specs.List.{All, Contains};
 ghost use Rattle.pk_base.specs.Paths.{is_path};
 ghost use Rattle.pk_types.specs.Fitting.{AreFitting, Fits};
-ghost use Rattle.module_graph.specs.Building.{Building, IsWanting, row_of};
+ghost use Rattle.module_graph.specs.Building.{Building, IsWanting, row_of, so_far};
 ghost use Rattle.module_graph.specs.Known.{with_paths, numbers_in};
 ghost use Rattle.module_graph.specs.ModuleGraph.{LeadsTo, IsModuleGraph};
 ghost use Rattle.module_graph.specs.ModuleOrder.{IsModuleOrder};
@@ -57,10 +57,13 @@ impl GraphBuilder {
         })
     }
 
-    /// The least module that wasn't added yet.
+    /// The least module that wasn't added yet. Whether or not there is one, the modules that are known stand in order.
     pub fn next_wanted(&self) -> Option<u32>
-        ensures { MatchOption result (length self.now.rows ≡ length self.now.known)
+        ensures wanted { MatchOption result (length self.now.rows ≡ length self.now.known)
             (λ number. (number ≡ length self.now.rows) × IsWanting self.now) }
+        ensures labels { map (λ row. row.label) (so_far self.now).rows ≡ self.now.known }
+        ensures fits { Fits (so_far self.now) }
+        ensures order { IsModuleOrder (so_far self.now) }
     {
         let wanted = self.rows.len();
         if wanted < self.known.len() {
@@ -76,6 +79,14 @@ impl GraphBuilder {
         ensures { slice_get self.now.known «module» ≡ Some result.now }
     {
         &self.known.as_slice()[module as usize]
+    }
+
+    /// The number of the module at a path, if it is known.
+    pub fn number_of(&self, path: &Path) -> Option<u32>
+        ensures { MatchOption result (¬ Contains self.now.known path.now) (λ number. slice_get self.now.known number ≡ Some path.now) }
+    {
+        let number = self.known.get_index_of(path)?;
+        Some(number as u32)
     }
 
     /// Adds the wanted module, whose requests lead to the targets. Its file has `size` bytes. `TooMany` comes where more

@@ -2,22 +2,18 @@ use Rattle.std.proofs.Common.{◌≡◌, length, sym, subst}
 use Rattle.pk_types.specs.Fitting.{Fits}
 use Rattle.module_graph.specs.ModuleOrder.{IsModuleOrder}
 use Rattle.module_graph.proofs.ByPath.{is_module_graph}
-use Rattle.module_graph.proofs.Builds.{fits, in_module_order}
+use Rattle.module_graph.proofs.Builds.{fits_so_far, order_so_far, all_so_far}
 use Rattle.module_graph.proofs.builder.GraphBuilder.finish.Goals as goal
 
 pub returns-clause-fits : goal.returns-clause-fits
 returns-clause-fits c =
     let all = subst (λ b. length b.rows ≡ length b.known) (sym c.self.view_is) c.requires in
-    let inside = fits c.self.inside.known.keys c.self.inside.rows.items c.self.inside.entries.items c.self.invariant all in
-    subst (λ r. Fits (record { rows = r; entries = c.from_vec-2.result })) (sym c.from_vec.ensures)
-    (subst (λ e. Fits (record { rows = c.self.inside.rows.items; entries = e })) (sym c.from_vec-2.ensures) inside)
+    subst Fits (all_so_far _ all c.from_vec.result c.from_vec-2.result c.from_vec.ensures c.from_vec-2.ensures) (fits_so_far _ c.self.invariant)
 
 pub returns-clause-order : goal.returns-clause-order
 returns-clause-order c =
     let all = subst (λ b. length b.rows ≡ length b.known) (sym c.self.view_is) c.requires in
-    let inside = in_module_order c.self.inside.known.keys c.self.inside.rows.items c.self.inside.entries.items c.self.invariant all in
-    subst (λ r. IsModuleOrder (record { rows = r; entries = c.from_vec-2.result })) (sym c.from_vec.ensures)
-    (subst (λ e. IsModuleOrder (record { rows = c.self.inside.rows.items; entries = e })) (sym c.from_vec-2.ensures) inside)
+    subst IsModuleOrder (all_so_far _ all c.from_vec.result c.from_vec-2.result c.from_vec.ensures c.from_vec-2.ensures) (order_so_far _ c.self.invariant)
 
 pub returns-clause-graph : goal.returns-clause-graph
 returns-clause-graph c = λ entries leads leading.
