@@ -1,0 +1,5 @@
+mod EntryPlans
+mod FirstPlaces
+mod Ranges
+mod Search
+mod Within

@@ -1,0 +1,108 @@
+-- The numbers in a plan of a graph that fits are those of its modules.
+use Rattle.std.proofs.Common.{◌≡◌, ℕ, ◌<◌, not, ◌==◌, List, [], ◌∷◌, length, map, sym, ap, subst, ◌∙◌, get_or, arith}
+use Rattle.std.specs.Prelude.{slice_index}
+use Rattle.std.specs.List.{All, AllZip, filter, range_with_len}
+use Rattle.std.proofs.lemmas.List.{length-map}
+use Rattle.std.proofs.lemmas.List.Elements.{All-nil, All-cons, All-head, All-tail, All-append, All-map, All-filter, All-get_or, All-weaker, All-same, Contains-get_or}
+use Rattle.std.proofs.lemmas.List.FromFn.{length-range_with_len, length-map-range_with_len, get_or-range_with_len}
+use Rattle.pk_types.specs.declared.graph.Graph.{Graph}
+use Rattle.pk_types.specs.declared.graph.Row.{Row}
+use Rattle.pk_types.specs.declared.plan.Item.TheVariants.{Segment, Evaluate}
+use Rattle.pk_types.specs.declared.plan.Plan.{Plan}
+use Rattle.pk_types.specs.Fitting.{RowFits, Fits}
+use Rattle.pk_types.specs.Places.{ArePlacesIn}
+use Rattle.emit_chunk.specs.Ranges.{module_of, AreBelow, InRange}
+use Rattle.plan_core.specs.Edges.{first_places, declared_targets, edges_of, active_edges}
+use Rattle.plan_core.specs.Closure.{IsReached, IsClosure}
+use Rattle.plan_core.specs.Scopes.{items_along, scope_items}
+use Rattle.plan_core.specs.Plans.{IsPlan}
+use Rattle.plan_core.proofs.Search.{below}
+
+-- ---- edges
+
+in_targets : (graph : Graph) (row : Row) → RowFits graph row → ArePlacesIn row.targets row.facts.order
+in_targets graph row fits = λ k d h. subst (λ count. get_or row.facts.order k d < count) (sym fits.each) (fits.facts.places.order k d h)
+
+-- each declaration of a module has a target
+pub order_in_targets : (graph : Graph) (number : ℕ) (default : Row) → number < length graph.rows → Fits graph
+    → ArePlacesIn (get_or graph.rows number default).targets (get_or graph.rows number default).facts.order
+order_in_targets graph number default within fits =
+    in_targets graph (get_or graph.rows number default) (All-get_or (RowFits graph) graph.rows number default within fits.rows)
+
+first_places_below : (count : ℕ) (numbers : List ℕ) → AreBelow count numbers → AreBelow count (first_places numbers)
+first_places_below count [] all = All-nil (λ number. number < count)
+first_places_below count (number ∷ numbers) all =
+    All-cons (λ other. other < count) number (filter (λ other. not (other == number)) (first_places numbers)) (All-head (λ other. other < count) number numbers all)
+    (All-filter (λ other. not (other == number)) (λ other. other < count) (first_places numbers) (first_places_below count numbers (All-tail (λ other. other < count) number numbers all)))
+
+row_below : (graph : Graph) (row : Row) → RowFits graph row → AreBelow (length graph.rows) (edges_of row)
+row_below graph row fits = first_places_below (length graph.rows) (declared_targets row)
+    (All-map (λ target. target < length graph.rows) (slice_index row.targets) row.facts.order
+    (All-weaker (λ request. request < length row.targets) (λ request. slice_index row.targets request < length graph.rows)
+    (λ request h. All-get_or (λ target. target < length graph.rows) row.targets request 0 h fits.targets) row.facts.order (in_targets graph row fits)))
+
+pub edges_below : (graph : Graph) → Fits graph → All (AreBelow (length graph.rows)) (active_edges graph)
+edges_below graph fits = All-map (AreBelow (length graph.rows)) edges_of graph.rows
+    (All-weaker (RowFits graph) (λ row. AreBelow (length graph.rows) (edges_of row)) (row_below graph) graph.rows fits.rows)
+
+pub count_of_edges : (graph : Graph) → length (active_edges graph) ≡ length graph.rows
+count_of_edges graph = length-map graph.rows edges_of
+
+-- the same by the number of lists of edges
+pub edges_within : (graph : Graph) → Fits graph → All (AreBelow (length (active_edges graph))) (active_edges graph)
+edges_within graph fits = subst (λ count. All (AreBelow count) (active_edges graph)) (sym (count_of_edges graph)) (edges_below graph fits)
+
+-- ---- plans
+
+range_below : (count : ℕ) → AreBelow count (range_with_len 0 count)
+range_below count = λ k d h.
+    let short : k < count = omega (arith, length-range_with_len 0 count) in
+    omega (arith, get_or-range_with_len 0 count k d short)
+
+items_below : (count number : ℕ) (targets : List ℕ) → number < count → AreBelow count targets → All (λ item. module_of item < count) (items_along targets number)
+items_below count number targets within all =
+    All-append (λ item. module_of item < count) (map Evaluate (filter (λ target. not (target == number)) targets)) (Segment number ∷ [])
+    (All-map (λ item. module_of item < count) Evaluate (filter (λ target. not (target == number)) targets) (All-filter (λ target. not (target == number)) (λ target. target < count) targets all))
+    (All-cons (λ item. module_of item < count) (Segment number) [] within (All-nil (λ item. module_of item < count)))
+
+-- the modules that are reached from one are below the count
+pub reached_below : (graph : Graph) → Fits graph → (from number : ℕ) → from < length graph.rows → IsReached (active_edges graph) from number → number < length graph.rows
+reached_below graph fits from number within path =
+    omega (arith, count_of_edges graph, below (active_edges graph) from (omega (arith, count_of_edges graph)) (edges_within graph fits) number path)
+
+closures_below : (graph : Graph) → Fits graph → (entries : List ℕ) (closures : List (List ℕ)) → AreBelow (length graph.rows) entries
+    → AllZip (IsClosure (active_edges graph)) entries closures → All (AreBelow (length graph.rows)) closures
+closures_below graph fits [] [] within zip = All-nil (AreBelow (length graph.rows))
+closures_below graph fits [] (closure ∷ closures) within zip = absurd zip
+closures_below graph fits (entry ∷ entries) [] within zip = absurd zip
+closures_below graph fits (entry ∷ entries) (closure ∷ closures) within zip =
+    All-cons (AreBelow (length graph.rows)) closure closures
+    (λ k d h. reached_below graph fits entry (get_or closure k d) (All-head (λ number. number < length graph.rows) entry entries within) ((zip.0.reached (get_or closure k d)).0 (Contains-get_or closure k d h)))
+    (closures_below graph fits entries closures (All-tail (λ number. number < length graph.rows) entry entries within) zip.1)
+
+module _ (graph : Graph) (plan : Plan) (fits : Fits graph) (planned : IsPlan graph plan) where
+  modules_below : All (AreBelow (length graph.rows)) plan.chunks.modules
+  modules_below = closures_below graph fits graph.entries plan.chunks.modules fits.entries planned.chunks.modules
+
+  scopes_below : All (All (λ item. module_of item < length graph.rows)) plan.hoists.items
+  scopes_below = All-same (All (λ item. module_of item < length graph.rows)) plan.hoists.items (map (scope_items (active_edges graph)) (range_with_len 0 (length (active_edges graph)))) planned.hoists.items
+      (All-map (All (λ item. module_of item < length graph.rows)) (scope_items (active_edges graph)) (range_with_len 0 (length (active_edges graph)))
+      (All-weaker (λ number. number < length (active_edges graph)) (λ number. All (λ item. module_of item < length graph.rows) (scope_items (active_edges graph) number))
+      (λ number h. items_below (length graph.rows) number (get_or (active_edges graph) number []) (omega (arith, count_of_edges graph)) (All-get_or (AreBelow (length graph.rows)) (active_edges graph) number [] h (edges_below graph fits)))
+      (range_with_len 0 (length (active_edges graph))) (range_below (length (active_edges graph)))))
+
+  lists_below : All (AreBelow (length plan.ids.chunks)) plan.chunks.lists
+  lists_below = All-same (AreBelow (length plan.ids.chunks)) plan.chunks.lists (map (λ _. []) graph.entries) planned.chunks.lists
+      (All-map (AreBelow (length plan.ids.chunks)) (λ _. []) graph.entries (λ k d h. All-nil (λ number. number < length plan.ids.chunks)))
+
+  -- a plan of a graph that fits is in range
+  pub in_range : InRange graph plan
+  in_range = record {
+    targets = All-same (λ number. number < length graph.rows) plan.groups.targets graph.entries planned.groups.targets fits.entries;
+    modules = modules_below;
+    lists = lists_below;
+    roots = ap length planned.hoists.root ∙ length-range_with_len 0 (length (active_edges graph)) ∙ count_of_edges graph;
+    scopes = ap length planned.hoists.items ∙ length-map-range_with_len (scope_items (active_edges graph)) 0 (length (active_edges graph)) ∙ count_of_edges graph;
+    items = scopes_below;
+    ids = ap length planned.ids.modules ∙ length-map-range_with_len _ 0 (length graph.rows);
+  }
