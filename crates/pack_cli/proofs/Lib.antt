@@ -1,7 +1,3 @@
-pub mod Builds
-pub mod CallLists
-pub mod FilePaths
-pub mod Looks
+mod Builds
 pub mod Meets
-pub mod Reading
-pub mod Texts
+mod Putting

@@ -5,12 +5,12 @@ use Rattle.pk_base.specs.Causes.{Rose, Counts}
 use Rattle.pk_base.specs.Outside.{AddsPrefix}
 use Rattle.pk_base.specs.Meanings.{FilesMeaning, StoreMeaning, SourceMeaning, SinkMeaning}
 use Rattle.pack_cli.specs.Answers.{fault_line, is_write_fault, lines_of}
-use Rattle.pack_cli.specs.Output.{output_of, built_lines}
+use Rattle.pack_cli.specs.Output.{built_lines}
 use Rattle.pack_cli.specs.Round.{AsksFiles, Rounds}
 use Rattle.pack_cli.specs.Run.{Moment, DoesBuild, BuildMeets, HasCause, IsCalm, PutsLines, RunMeets, usage_line}
 use Rattle.pack_cli.specs.Run.Builds.{refuses, leaves}
 use Rattle.pack_cli.specs.Run.PutsLines.{whole, part}
-use Rattle.pack_cli.specs.declared.faults.BuildFault.{BuildFault}
+use Rattle.watch_core.specs.declared.faults.BuildFault.{BuildFault}
 use Rattle.pack_cli.specs.declared.faults.RoundFault.{RoundFault}
 use Rattle.pack_cli.specs.declared.faults.RoundFault.TheVariants as round
 use Rattle.pack_cli.specs.declared.top.Command.{Command}
@@ -59,19 +59,17 @@ pub done_meets : (lines : List ℕ) (status : Status) (files files_after : Files
     → BuildMeets status (moment files store source sink steps) (moment files_after store_after source sink_after steps)
 done_meets lines _ files files_after store store_after source _ _ steps r (whole sink sink_after told same held) =
     let b = r.rounds in
-    let printed : IsTrue sink.told → sink_after.held ≡ sink.held ++ built_lines b.body = λ h. held h ∙ ap (λ l. sink.held ++ l) b.lines_are in
+    let printed : IsTrue sink.told → sink_after.held ≡ sink.held ++ built_lines b.bundle = λ h. held h ∙ ap (λ l. sink.held ++ l) b.lines_are in
     meets (Ok lines) Done files files_after store store_after source sink sink_after steps r told
     (λ h calm memory. record {
-      outcome = record { status = Done; printed = built_lines b.body; output = output_of b.body };
-      of_tree = leaves b.body (b.of_tree h);
-      does = record { answer = refl; printed = printed; called = b.store_holds.calls; holds = b.store_holds.files };
-      asked = b.asked h;
+      outcome = record { status = Done; printed = built_lines b.bundle; output = b.bundle.files; asks = (b.of_tree h).asks };
+      of_tree = leaves b.bundle (b.of_tree h).asks (b.of_tree h).is;
+      does = record { answer = refl; printed = printed; called = b.store_holds.calls; holds = b.store_holds.files_are; asked = (b.of_tree h).asked };
     })
     (record {
       quiet = record { reads = r.asks.faults.kept refl; writes = r.writes.kept refl; takes = refl; puts = same };
-      body = b.body;
+      bundle = b.bundle;
       of_tree = b.of_tree;
-      asked = b.asked;
       store = b.store_holds;
       printed = printed;
     })
@@ -84,17 +82,15 @@ pub refused_meets : (fault : BuildFault) (status : Status) (files files_after : 
 refused_meets fault _ files files_after store store_after source _ _ steps r (whole sink sink_after told same held) =
     meets (Err (round.Refused fault)) Refused files files_after store store_after source sink sink_after steps r told
     (λ h calm memory. record {
-      outcome = record { status = Refused; printed = fault_line (round.Refused fault); output = [] };
-      of_tree = refuses fault (r.rounds.0 h);
-      does = record { answer = refl; printed = held; called = r.rounds.2.calls ∙ sym (append-nil store.calls); holds = r.rounds.2.files };
-      asked = r.rounds.1 h;
+      outcome = record { status = Refused; printed = fault_line (round.Refused fault); output = []; asks = (r.rounds.0 h).asks };
+      of_tree = refuses fault (r.rounds.0 h).asks (r.rounds.0 h).is;
+      does = record { answer = refl; printed = held; called = r.rounds.1.calls ∙ sym (append-nil store.calls); holds = r.rounds.1.files; asked = (r.rounds.0 h).asked };
     })
     (record {
       quiet = record { reads = r.asks.faults.kept refl; writes = r.writes.kept refl; takes = refl; puts = same };
       fault = fault;
       of_tree = r.rounds.0;
-      asked = r.rounds.1;
-      store = r.rounds.2;
+      store = r.rounds.1;
       printed = held;
     })
 refused_meets fault _ files files_after store store_after source _ _ steps r (part sink sink_after told rose added) =

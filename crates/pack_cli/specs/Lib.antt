@@ -1,9 +1,5 @@
 pub mod Answers
-pub mod Body
-pub mod Build
-pub mod Calls
 pub mod Numbers
 pub mod Output
 pub mod Round
 pub mod Run
-pub mod Scanning

@@ -1,51 +1,64 @@
--- The one file of a bundle of one CommonJS module without a site, and the lines that a round prints.
-use Rattle.std.specs.Prelude.{ℕ, List, [], ◌∷◌, ◌++◌, length, Some, codes}
+-- The bundle of a tree, and the lines that a round prints of it.
+use Rattle.std.specs.Prelude.{◌≡◌, ℕ, List, [], ◌∷◌, ◌++◌, length, Some, codes, slice_index_or}
 use Rattle.std.specs.Fmt.{decimal}
 use Rattle.pk_base.specs.Calls.{Held}
 use Rattle.pk_base.specs.Outside.{set_at}
 use Rattle.pk_base.specs.declared.outside.Call.{Call}
 use Rattle.pk_base.specs.declared.outside.Call.TheVariants.{Put}
-use Rattle.emit_chunk.specs.Runtime.{runtime}
+use Rattle.pk_types.specs.declared.graph.Graph.{Graph}
+use Rattle.pk_types.specs.declared.plan.Plan.{Plan}
+use Rattle.emit_body.specs.declared.body.Body.{Body}
+use Rattle.plan_core.specs.Outputs.{output_of}
+use Rattle.plan_core.specs.Plans.{IsPlan}
+use Rattle.plan_core.specs.declared.files.OutFile.{OutFile}
+use Rattle.watch_core.specs.Builds.{HasModules}
 
--- the factory of the module numbered 0, whose body has no site
-abbrev pub factory_of : List ℕ → List ℕ
-factory_of body =
-    codes "[0, 0, [], function (module, exports, __webpack_r) {\n/*m \"src/index.js\" "
-    ++ decimal (length body)
-    ++ codes "*/\n"
-    ++ body
-    ++ codes "\n}]"
-
-unfoldable pub main_of : List ℕ → List ℕ
-main_of body = runtime ++ codes "__webpack_start__({ g: [[0]], c: [] }, [\n" ++ factory_of body ++ codes "\n]);\n"
-
-abbrev pub main_js : List ℕ
-main_js = codes "main.js"
-
--- file names with their bytes, in the order in which they are put
+-- files in the order in which they are put
 abbrev pub Files : Type 0
-Files = List (List ℕ × List ℕ)
+Files = List OutFile
 
--- the output of a tree without a fault, by the body of its module
-abbrev pub output_of : List ℕ → Files
-output_of body = (main_js, main_of body) ∷ []
+-- the files of a bundle, and how many modules and groups it has
+pub record Bundle : Type 0 where
+  pub files : Files
+  pub modules : ℕ
+  pub groups : ℕ
+
+-- with one entry its chunk is the only one, and holds the bundle's modules
+abbrev pub bundle_of : Graph → Plan → List Body → Bundle
+bundle_of graph plan bodies = record {
+  files = output_of graph plan bodies;
+  modules = length (slice_index_or plan.chunks.modules 0 []);
+  groups = length plan.groups.targets;
+}
+
+-- This is the bundle of the tree, which is found with these asks.
+pub record HasBundle (t : Held) (bundle : Bundle) (asks : List (List ℕ)) : Type 0 where
+  pub graph : Graph
+  pub bodies : List Body
+  pub plan : Plan
+  pub modules : HasModules t graph bodies asks
+  pub planned : IsPlan graph plan
+  pub is : bundle ≡ bundle_of graph plan bodies
 
 abbrev pub put_calls : Files → List Call
 put_calls [] = []
-put_calls (file ∷ files) = Put file.0 ∷ put_calls files
+put_calls (file ∷ files) = Put file.name ∷ put_calls files
 
 abbrev pub put_all : Files → Held → Held
 put_all [] held = held
-put_all (file ∷ files) held = put_all files (set_at file.0 (Some file.1) held)
+put_all (file ∷ files) held = put_all files (set_at file.name (Some file.bytes) held)
+
+abbrev pub file_line : OutFile → List ℕ
+file_line file = codes "file " ++ decimal (length file.bytes) ++ codes " " ++ file.name ++ codes "\n"
 
 abbrev pub file_lines : Files → List ℕ
 file_lines [] = []
-file_lines (file ∷ files) = codes "file " ++ decimal (length file.1) ++ codes " " ++ file.0 ++ codes "\n" ++ file_lines files
+file_lines (file ∷ files) = file_line file ++ file_lines files
+
+-- how many modules, groups and files were built
+abbrev pub count_line : ℕ → ℕ → ℕ → List ℕ
+count_line modules groups files = codes "built " ++ decimal modules ++ codes " modules " ++ decimal groups ++ codes " groups " ++ decimal files ++ codes " files\n"
 
 -- the lines of a round that was built
-unfoldable pub built_lines : List ℕ → List ℕ
-built_lines body = file_lines (output_of body) ++ codes "built 1 modules 1 groups 1 files\n"
-
--- the same lines by the size of the one file
-unfoldable pub lines_of_size : ℕ → List ℕ
-lines_of_size size = codes "file " ++ decimal size ++ codes " main.js\nbuilt 1 modules 1 groups 1 files\n"
+unfoldable pub built_lines : Bundle → List ℕ
+built_lines bundle = file_lines bundle.files ++ count_line bundle.modules bundle.groups (length bundle.files)

@@ -1,15 +1,16 @@
 -- What the program's one call promises.
-use Rattle.std.specs.Prelude.{◌≡◌, ◌≢◌, ℕ, List, [], ◌∷◌, ◌++◌, Option, None, Some, Result, codes, IsTrue, if◌then◌else◌}
+use Rattle.std.specs.Prelude.{◌≡◌, ◌≢◌, ℕ, List, [], ◌∷◌, ◌++◌, Option, None, Some, Result, Err, codes, IsTrue, if◌then◌else◌}
 use Rattle.std.specs.Str.{bytes_eq}
 use Rattle.pk_base.specs.Causes.{Rose, Counts}
 use Rattle.pk_base.specs.Calls.{Held}
 use Rattle.pk_base.specs.Meanings.{FilesMeaning, StoreMeaning, SourceMeaning, SinkMeaning}
 use Rattle.pk_base.specs.Outside.{AddsPrefix}
 use Rattle.pack_cli.specs.Answers.{fault_line, is_write_fault, lines_of}
-use Rattle.pack_cli.specs.Build.{HasBody, IsFirstFault, asked_of}
-use Rattle.pack_cli.specs.Output.{Files, output_of, put_calls, put_all, built_lines}
-use Rattle.pack_cli.specs.Round.{AsksFiles, AsksOnce, IsUntouched, HoldsOutput, IsUnwritten, Rounds}
-use Rattle.pack_cli.specs.declared.faults.BuildFault.{BuildFault}
+use Rattle.watch_core.specs.Asking.{AsksOnce}
+use Rattle.watch_core.specs.Builds.{IsFirstFault, FindsBehind}
+use Rattle.watch_core.specs.declared.faults.BuildFault.{BuildFault}
+use Rattle.pack_cli.specs.Output.{Bundle, Files, HasBundle, put_calls, put_all, built_lines}
+use Rattle.pack_cli.specs.Round.{AsksFiles, BuildsBehind, IsUntouched, HoldsOutput, IsUnwritten, Rounds}
 use Rattle.pack_cli.specs.declared.faults.RoundFault.{RoundFault}
 use Rattle.pack_cli.specs.declared.faults.RoundFault.TheVariants as round
 use Rattle.pack_cli.specs.declared.top.Command.{Command}
@@ -56,11 +57,12 @@ pub record Outcome : Type 0 where
   pub status : Status
   pub printed : List ℕ
   pub output : Files
+  pub asks : List (List ℕ)
 
--- the outcome of `build`: the tree is refused with its first fault, or its output is left
+-- the outcome of `build`: the tree is refused with its first fault, or its bundle is left
 pub data Builds (t : Held) : Outcome → Type 0 where
-  refuses : (fault : BuildFault) → IsFirstFault t fault → Builds t (record { status = Refused; printed = fault_line (round.Refused fault); output = [] })
-  leaves : (body : List ℕ) → HasBody t body → Builds t (record { status = Done; printed = built_lines body; output = output_of body })
+  refuses : (fault : BuildFault) (asks : List (List ℕ)) → IsFirstFault t fault asks → Builds t (record { status = Refused; printed = fault_line (round.Refused fault); output = []; asks = asks })
+  leaves : (bundle : Bundle) (asks : List (List ℕ)) → HasBundle t bundle asks → Builds t (record { status = Done; printed = built_lines bundle; output = bundle.files; asks = asks })
 
 -- the outcome is what was answered, and what the objects mean afterwards
 pub record Does (outcome : Outcome) (status : Status) (old new : Moment) : Type 0 where
@@ -68,13 +70,13 @@ pub record Does (outcome : Outcome) (status : Status) (old new : Moment) : Type 
   pub printed : IsTrue old.sink.told → new.sink.held ≡ old.sink.held ++ outcome.printed
   pub called : new.store.calls ≡ old.store.calls ++ put_calls outcome.output
   pub holds : IsTrue old.store.told → new.store.files ≡ put_all outcome.output old.store.files
+  pub asked : new.files.asks ≡ old.files.asks ++ outcome.asks
 
--- The headline for `build`: the tree's one outcome is what came, with the tree's asks.
+-- The headline for `build`: the tree's one outcome is what came.
 pub record DoesBuild (t : Held) (status : Status) (old new : Moment) : Type 0 where
   pub outcome : Outcome
   pub of_tree : Builds t outcome
   pub does : Does outcome status old new
-  pub asked : new.files.asks ≡ old.files.asks ++ asked_of t
 
 -- the sink's new bytes are these
 abbrev pub Prints : List ℕ → Moment → Moment → Type 0
@@ -83,18 +85,16 @@ Prints lines old new = IsTrue old.sink.told → new.sink.held ≡ old.sink.held 
 -- Done comes only where the tree has no fault. Its output is in the store, and its lines are printed.
 pub record IsDone (old new : Moment) : Type 0 where
   pub quiet : IsQuiet old new
-  pub body : List ℕ
-  pub of_tree : IsTrue old.files.told → HasBody old.files.tree body
-  pub asked : IsTrue old.files.told → new.files.asks ≡ old.files.asks ++ asked_of old.files.tree
-  pub store : HoldsOutput body old.store new.store
-  pub printed : Prints (built_lines body) old new
+  pub bundle : Bundle
+  pub of_tree : IsTrue old.files.told → BuildsBehind old.files.tree bundle old.files.asks new.files.asks
+  pub store : HoldsOutput bundle.files old.store new.store
+  pub printed : Prints (built_lines bundle) old new
 
 -- Refused comes only where the tree has a first fault, whose line is printed.
 pub record IsRefused (old new : Moment) : Type 0 where
   pub quiet : IsQuiet old new
   pub fault : BuildFault
-  pub of_tree : IsTrue old.files.told → IsFirstFault old.files.tree fault
-  pub asked : IsTrue old.files.told → new.files.asks ≡ old.files.asks ++ asked_of old.files.tree
+  pub of_tree : IsTrue old.files.told → FindsBehind old.files.tree old.files.asks new.files.asks (Err fault)
   pub store : IsUntouched old.store new.store
   pub printed : Prints (fault_line (round.Refused fault)) old new
 
@@ -106,7 +106,7 @@ pub record HasReadFault (old new : Moment) : Type 0 where
   pub store : IsUntouched old.store new.store
   pub printed : Prints (codes "fault read\n") old new
 
--- WriteFault comes only where the count of the store's faults rose. The tree has no fault, and only the name of the put may differ.
+-- WriteFault comes only where the count of the store's faults rose. The tree has no fault, and only the names that were put may differ.
 pub record HasWriteFault (old new : Moment) : Type 0 where
   pub rose : Rose old.store.faults new.store.faults
   pub reads : new.files.faults ≡ old.files.faults

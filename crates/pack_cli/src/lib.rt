@@ -1,11 +1,7 @@
 //! The command `build`, over any files, store, source and sink.
 #![tactic(auto)]
 
-mod calls;
-mod emit;
 mod faults;
-mod look;
-mod places;
 mod print;
 mod rounds;
 mod status;

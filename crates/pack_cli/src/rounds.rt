@@ -1,18 +1,42 @@
 // One build of the present tree.
-ghost use Rattle.std.specs.Prelude.{◌≡◌};
+ghost use Rattle.std.specs.Prelude.{◌≡◌, [], OnOk, OnErr, is_err, length, slice_index_or};
 ghost use Rattle.pk_base.specs.Causes.{Counts};
 ghost use Rattle.pack_cli.specs.Answers.{is_write_fault};
-ghost use Rattle.pack_cli.specs.Round.{AsksFiles, Rounds};
+ghost use Rattle.pack_cli.specs.Round.{AsksFiles, HasLostPut, HoldsOutput, Rounds};
 
-use crate::emit::main_file;
 use crate::faults::RoundFault;
-use crate::look::look;
 use crate::print::built_lines;
 use pk_base::{Bytes, Failed, Files, Store};
+use pk_types::Plan;
+use plan_core::{OutFile, output, plan};
 use std::alloc::Global;
+use watch_core::find_modules;
 
-/// Builds the present tree: its output is put, and the lines to print are answered. All memory is taken before the put.
-#[tactic(auto, using(crate::proofs::Looks::asks_once))]
+// Puts files in order, up to the first that can't be.
+fn put_files<O: Store>(out: &mut O, files: &[OutFile]) -> Result<(), Failed>
+    ensures put { OnOk result (HoldsOutput files.now (O.means out.old) (O.means out.new)) }
+    ensures lost { OnErr result (HasLostPut files.now (O.means out.old) (O.means out.new)) }
+    ensures told { (O.means out.new).told ≡ (O.means out.old).told }
+    ensures cause { Counts (is_err result) ((O.means out.old).faults) ((O.means out.new).faults) }
+{
+    for file in files {
+        out.put(file.name.as_slice(), file.bytes.as_slice())?;
+    }
+    Ok(())
+}
+
+// How many modules a bundle has: those of its one chunk.
+fn module_count(plan: &Plan) -> usize
+    ensures { result ≡ length (slice_index_or (plan.now.chunks.modules) 0 []) }
+{
+    match plan.chunks.modules.as_slice() {
+        [modules, ..] => modules.len(),
+        [] => 0,
+    }
+}
+
+/// Builds the present tree: its output is put, and the lines to print are answered. All memory is taken before the first
+/// put.
 pub fn round<F: Files, O: Store>(
     alloc: Global,
     files: &mut F,
@@ -23,10 +47,16 @@ pub fn round<F: Files, O: Store>(
     ensures told { (O.means out.new).told ≡ (O.means out.old).told }
     ensures writes { Counts (is_write_fault result) ((O.means out.old).faults) ((O.means out.new).faults) }
 {
-    let body = look(alloc, files)?;
-    let main = main_file(alloc, body.as_slice())?;
-    let lines = built_lines(alloc, main.len())?;
-    match out.put(b"main.js", main.as_slice()) {
+    let found = match find_modules(alloc, files)? {
+        Ok(found) => found,
+        Err(fault) => return Err(RoundFault::Refused(fault)),
+    };
+    let plan = plan(alloc, &found.graph)?;
+    let output = output(alloc, &found.graph, &plan, &found.bodies)?;
+    let modules = module_count(&plan);
+    let groups = plan.groups.targets.len();
+    let lines = built_lines(alloc, output.as_slice(), modules, groups)?;
+    match put_files(out, output.as_slice()) {
         Ok(()) => Ok(lines),
         Err(Failed) => Err(RoundFault::WriteFault),
     }

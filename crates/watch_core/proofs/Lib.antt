@@ -1,0 +1,11 @@
+mod FactsFitting
+mod FactsRequests
+mod FilePaths
+mod Finding
+mod Looking
+mod Outwards
+mod Seeing
+mod Visiting
+mod WalkEnds
+mod WalkPaths
+mod WalkSteps

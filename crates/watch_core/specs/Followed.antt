@@ -1,0 +1,43 @@
+-- The modules of a tree that were followed so far, in the order of their numbers.
+use Rattle.std.specs.Prelude.{◌≡◌, ℕ, ◌≤◌, List, [], ◌∷◌, map, take, length, false}
+use Rattle.std.specs.List.{AllZip, flat_map, sum_by}
+use Rattle.pk_base.specs.Calls.{Held}
+use Rattle.pk_types.specs.declared.graph.Row.{Row}
+use Rattle.emit_body.specs.declared.body.Body.{Body}
+use Rattle.bare_modules.specs.declared.read.ModuleText.{ModuleText}
+use Rattle.module_graph.specs.Building.{Building, so_far}
+use Rattle.module_graph.specs.Known.{numbers_in}
+use Rattle.module_graph.specs.ModuleOrder.{IsModuleOrder}
+use Rattle.watch_core.specs.Modules.{IsModule, facts_of, module_asks}
+
+-- the row and the body are those of the tree's module at a path, whose targets have their numbers among the known paths
+pub record IsFollowed (t : Held) (known : List (List ℕ)) (row : Row) (body : Body) : Type 0 where
+  pub bytes : List ℕ
+  pub said : ModuleText
+  pub targets : List (List ℕ)
+  pub is : IsModule t row.label bytes said targets
+  pub facts : row.facts ≡ facts_of said
+  pub leads : row.targets ≡ numbers_in known targets
+  pub flagged : row.flagged ≡ false
+  pub size : row.size ≡ length bytes
+  pub body_is : body ≡ record { text = said.body; pieces = [] }
+
+abbrev pub source_bytes : List Row → ℕ
+source_bytes rows = sum_by (λ row. row.size) rows
+
+-- The modules begin with that of the entry and stand in order. Those that have rows were followed, and each further one is known by a request of these.
+pub record AreFollowed (t : Held) (entry : List ℕ) (building : Building) (bodies : List Body) : Type 0 where
+  pub first : take 1 building.known ≡ entry ∷ []
+  pub entries : building.entries ≡ 0 ∷ []
+  pub labels : map (λ row. row.label) building.rows ≡ take (length building.rows) building.known
+  pub each : AllZip (IsFollowed t building.known) building.rows bodies
+  pub few : length building.known ≤ 16384
+  pub few_bytes : source_bytes building.rows ≤ 268435456
+  pub order : IsModuleOrder (so_far building)
+
+-- the paths that are looked at for modules: each module's own, and those for its requests
+abbrev pub row_asks : Held → Row → List (List ℕ)
+row_asks t row = row.label ∷ module_asks t row.label (map (λ request. request.text) row.facts.requests)
+
+abbrev pub rows_asks : Held → List Row → List (List ℕ)
+rows_asks t rows = flat_map (row_asks t) rows

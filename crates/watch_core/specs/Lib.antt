@@ -1,0 +1,10 @@
+pub mod Trees
+pub mod Targets
+pub mod Manifests
+pub mod Asking
+pub mod Modules
+pub mod Visits
+pub mod Followed
+pub mod Builds
+pub mod Walks
+pub mod Places
