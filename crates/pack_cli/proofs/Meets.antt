@@ -63,12 +63,14 @@ done_meets lines _ files files_after store store_after source _ _ steps r (whole
     meets (Ok lines) Done files files_after store store_after source sink sink_after steps r told
     (λ h calm memory. record {
       outcome = record { status = Done; printed = built_lines b.bundle; output = b.bundle.files; asks = (b.of_tree h).asks };
-      of_tree = leaves b.bundle (b.of_tree h).asks (b.of_tree h).is;
+      of_tree = leaves b.bundle (b.of_tree h).asks (record { found = b.found; modules = (b.of_tree h).is; made = b.made });
       does = record { answer = refl; printed = printed; called = b.store_holds.calls; holds = b.store_holds.files_are; asked = (b.of_tree h).asked };
     })
     (record {
       quiet = record { reads = r.asks.faults.kept refl; writes = r.writes.kept refl; takes = refl; puts = same };
+      found = b.found;
       bundle = b.bundle;
+      made = b.made;
       of_tree = b.of_tree;
       store = b.store_holds;
       printed = printed;

@@ -12,6 +12,8 @@ use Rattle.plan_core.specs.Outputs.{output_of}
 use Rattle.plan_core.specs.Plans.{IsPlan}
 use Rattle.plan_core.specs.declared.files.OutFile.{OutFile}
 use Rattle.watch_core.specs.Builds.{HasModules}
+use Rattle.watch_core.specs.Walks.{IsWritable}
+use Rattle.watch_core.specs.declared.walk.Found.{Found}
 
 -- files in the order in which they are put
 abbrev pub Files : Type 0
@@ -31,14 +33,18 @@ bundle_of graph plan bodies = record {
   groups = length plan.groups.targets;
 }
 
--- This is the bundle of the tree, which is found with these asks.
-pub record HasBundle (t : Held) (bundle : Bundle) (asks : List (List ℕ)) : Type 0 where
-  pub graph : Graph
-  pub bodies : List Body
+-- This is a bundle of modules that can be planned and written.
+pub record IsBundle (found : Found) (bundle : Bundle) : Type 0 where
+  pub writable : IsWritable found
   pub plan : Plan
-  pub modules : HasModules t graph bodies asks
-  pub planned : IsPlan graph plan
-  pub is : bundle ≡ bundle_of graph plan bodies
+  pub planned : IsPlan found.graph plan
+  pub is : bundle ≡ bundle_of found.graph plan found.bodies
+
+-- This is the bundle of the tree, whose modules are found with these asks.
+pub record HasBundle (t : Held) (bundle : Bundle) (asks : List (List ℕ)) : Type 0 where
+  pub found : Found
+  pub modules : HasModules t found.graph found.bodies asks
+  pub made : IsBundle found bundle
 
 abbrev pub put_calls : Files → List Call
 put_calls [] = []

@@ -1,6 +1,5 @@
 -- What a round answers, asks and leaves.
 use Rattle.std.specs.Prelude.{◌≡◌, ℕ, List, ◌∷◌, ◌++◌, Result, Ok, Err, IsTrue}
-use Rattle.pk_base.specs.Calls.{Held}
 use Rattle.pk_base.specs.Causes.{Counts}
 use Rattle.pk_base.specs.Meanings.{FilesMeaning, StoreMeaning}
 use Rattle.pk_base.specs.Outside.{Tried, ChangesOnly}
@@ -8,16 +7,11 @@ use Rattle.pk_base.specs.declared.outside.Call.TheVariants.{Put}
 use Rattle.plan_core.specs.declared.files.OutFile.{OutFile}
 use Rattle.watch_core.specs.Asking.{AsksOnce}
 use Rattle.watch_core.specs.Builds.{FindsBehind}
+use Rattle.watch_core.specs.declared.walk.Found.{Found}
 use Rattle.pack_cli.specs.declared.faults.RoundFault.{RoundFault}
 use Rattle.pack_cli.specs.declared.faults.RoundFault.TheVariants.{Refused, ReadFault, WriteFault, NoMemory}
 use Rattle.pack_cli.specs.Answers.{is_read_fault}
-use Rattle.pack_cli.specs.Output.{Bundle, Files, HasBundle, put_calls, put_all, built_lines}
-
--- the bundle of a tree, with the asks behind those before
-pub record BuildsBehind (t : Held) (bundle : Bundle) (old new : List (List ℕ)) : Type 0 where
-  pub asks : List (List ℕ)
-  pub is : HasBundle t bundle asks
-  pub asked : new ≡ old ++ asks
+use Rattle.pack_cli.specs.Output.{Bundle, Files, IsBundle, put_calls, put_all, built_lines}
 
 -- what a round does to its files: they tell what they told, and each path is asked at most once
 pub record AsksFiles (answer : Result (List ℕ) RoundFault) (old new : FilesMeaning) : Type 0 where
@@ -46,17 +40,21 @@ pub record HasLostPut (files : Files) (old new : StoreMeaning) : Type 0 where
   pub calls : Tried (old.calls ++ put_calls done) new.calls (Put file.name)
   pub files_are : IsTrue old.told → ChangesOnly (put_all done old.files) new.files file.name
 
--- a round that was built: of the told tree, with its asks
+-- a round that was built: a bundle of some modules, which are those of the tree where it is told
 pub record IsBuilt (lines : List ℕ) (files files_after : FilesMeaning) (store store_after : StoreMeaning) : Type 0 where
+  pub found : Found
   pub bundle : Bundle
-  pub of_tree : IsTrue files.told → BuildsBehind files.tree bundle files.asks files_after.asks
+  pub made : IsBundle found bundle
+  pub of_tree : IsTrue files.told → FindsBehind files.tree files.asks files_after.asks (Ok found)
   pub lines_are : lines ≡ built_lines bundle
   pub store_holds : HoldsOutput bundle.files store store_after
 
--- a round of which a put failed: of the told tree, with its asks
+-- a round of which a put failed, the same otherwise
 pub record IsUnwritten (files files_after : FilesMeaning) (store store_after : StoreMeaning) : Type 0 where
+  pub found : Found
   pub bundle : Bundle
-  pub of_tree : IsTrue files.told → BuildsBehind files.tree bundle files.asks files_after.asks
+  pub made : IsBundle found bundle
+  pub of_tree : IsTrue files.told → FindsBehind files.tree files.asks files_after.asks (Ok found)
   pub store_lost : HasLostPut bundle.files store store_after
 
 -- what a round answers and leaves, by its answer

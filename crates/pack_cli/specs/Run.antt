@@ -1,5 +1,5 @@
 -- What the program's one call promises.
-use Rattle.std.specs.Prelude.{◌≡◌, ◌≢◌, ℕ, List, [], ◌∷◌, ◌++◌, Option, None, Some, Result, Err, codes, IsTrue, if◌then◌else◌}
+use Rattle.std.specs.Prelude.{◌≡◌, ◌≢◌, ℕ, List, [], ◌∷◌, ◌++◌, Option, None, Some, Result, Ok, Err, codes, IsTrue, if◌then◌else◌}
 use Rattle.std.specs.Str.{bytes_eq}
 use Rattle.pk_base.specs.Causes.{Rose, Counts}
 use Rattle.pk_base.specs.Calls.{Held}
@@ -9,8 +9,9 @@ use Rattle.pack_cli.specs.Answers.{fault_line, is_write_fault, lines_of}
 use Rattle.watch_core.specs.Asking.{AsksOnce}
 use Rattle.watch_core.specs.Builds.{IsFirstFault, FindsBehind}
 use Rattle.watch_core.specs.declared.faults.BuildFault.{BuildFault}
-use Rattle.pack_cli.specs.Output.{Bundle, Files, HasBundle, put_calls, put_all, built_lines}
-use Rattle.pack_cli.specs.Round.{AsksFiles, BuildsBehind, IsUntouched, HoldsOutput, IsUnwritten, Rounds}
+use Rattle.watch_core.specs.declared.walk.Found.{Found}
+use Rattle.pack_cli.specs.Output.{Bundle, Files, HasBundle, IsBundle, put_calls, put_all, built_lines}
+use Rattle.pack_cli.specs.Round.{AsksFiles, IsUntouched, HoldsOutput, IsUnwritten, Rounds}
 use Rattle.pack_cli.specs.declared.faults.RoundFault.{RoundFault}
 use Rattle.pack_cli.specs.declared.faults.RoundFault.TheVariants as round
 use Rattle.pack_cli.specs.declared.top.Command.{Command}
@@ -72,7 +73,7 @@ pub record Does (outcome : Outcome) (status : Status) (old new : Moment) : Type 
   pub holds : IsTrue old.store.told → new.store.files ≡ put_all outcome.output old.store.files
   pub asked : new.files.asks ≡ old.files.asks ++ outcome.asks
 
--- The headline for `build`: the tree's one outcome is what came.
+-- The headline for `build`: an outcome of the tree is what came.
 pub record DoesBuild (t : Held) (status : Status) (old new : Moment) : Type 0 where
   pub outcome : Outcome
   pub of_tree : Builds t outcome
@@ -82,15 +83,17 @@ pub record DoesBuild (t : Held) (status : Status) (old new : Moment) : Type 0 wh
 abbrev pub Prints : List ℕ → Moment → Moment → Type 0
 Prints lines old new = IsTrue old.sink.told → new.sink.held ≡ old.sink.held ++ lines
 
--- Done comes only where the tree has no fault. Its output is in the store, and its lines are printed.
+-- Done comes only with a bundle, which is in the store and whose lines are printed. Where the tree is told, it is the bundle of its modules.
 pub record IsDone (old new : Moment) : Type 0 where
   pub quiet : IsQuiet old new
+  pub found : Found
   pub bundle : Bundle
-  pub of_tree : IsTrue old.files.told → BuildsBehind old.files.tree bundle old.files.asks new.files.asks
+  pub made : IsBundle found bundle
+  pub of_tree : IsTrue old.files.told → FindsBehind old.files.tree old.files.asks new.files.asks (Ok found)
   pub store : HoldsOutput bundle.files old.store new.store
   pub printed : Prints (built_lines bundle) old new
 
--- Refused comes only where the tree has a first fault, whose line is printed.
+-- Refused comes only with a fault, whose line is printed. Where the tree is told, it is its first fault.
 pub record IsRefused (old new : Moment) : Type 0 where
   pub quiet : IsQuiet old new
   pub fault : BuildFault
@@ -106,7 +109,7 @@ pub record HasReadFault (old new : Moment) : Type 0 where
   pub store : IsUntouched old.store new.store
   pub printed : Prints (codes "fault read\n") old new
 
--- WriteFault comes only where the count of the store's faults rose. The tree has no fault, and only the names that were put may differ.
+-- WriteFault comes only where the count of the store's faults rose. Only the files of a bundle that were put, and the one that could not be, may differ. Where the tree is told, it is the bundle of its modules.
 pub record HasWriteFault (old new : Moment) : Type 0 where
   pub rose : Rose old.store.faults new.store.faults
   pub reads : new.files.faults ≡ old.files.faults

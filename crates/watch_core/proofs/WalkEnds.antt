@@ -11,8 +11,8 @@ use Rattle.pk_types.specs.declared.graph.Graph.{Graph}
 use Rattle.pk_types.specs.declared.graph.Row.{Row}
 use Rattle.watch_core.proofs.Looking.{with_more}
 use Rattle.watch_core.proofs.WalkPaths.{IsThere, there_at}
-use Rattle.watch_core.proofs.WalkSteps.{IsFollowedIn, IsWalking, HasFollowed, zip_weaker}
-use Rattle.watch_core.specs.Followed.{IsFollowed, AreFollowed, rows_asks}
+use Rattle.watch_core.proofs.WalkSteps.{IsWalking, HasFollowed}
+use Rattle.watch_core.specs.Followed.{AreFollowed, rows_asks}
 use Rattle.watch_core.specs.Modules.{HasFault, modules, module_asks}
 use Rattle.watch_core.specs.Visits.{IsVisited, IsRefused, Visits}
 use Rattle.watch_core.specs.Walks.{Walks, building_of}
@@ -51,7 +51,7 @@ module _ (t : Held) (entry : List ℕ) (walker : Walker) (walking : IsWalking en
     first = walking.first;
     entries = walking.entries;
     labels = row_labels;
-    each = zip_weaker (IsFollowedIn t walker.builder.known) (IsFollowed t walker.builder.known) (λ row body h. h.is) walker.builder.rows walker.bodies.items followed.each;
+    each = followed.each;
     few = walking.few;
     few_bytes = subst (λ n. n ≤ 268435456) walking.bytes walking.few_bytes;
     order = order;

@@ -11,14 +11,9 @@ use Rattle.std.proofs.lemmas.Option.{none-some, same_Some, option_and_then_some,
 use Rattle.module_graph.proofs.Sights.{extends}
 use Rattle.module_graph.specs.Known.{with_path, with_paths, number_in, numbers_in}
 use Rattle.pk_base.specs.Calls.{Held}
+use Rattle.watch_core.specs.Followed.{IsKnown, AreKnown}
 use Rattle.watch_core.specs.Targets.{file_at, file_from, files_from, target_from}
 use Rattle.watch_core.specs.Trees.{seen, is_there}
-
-abbrev pub IsKnown : List (List ℕ) → List ℕ → Type 0
-IsKnown known path = list_any (bytes_eq path) known ≡ true
-
-abbrev pub AreKnown : List (List ℕ) → List (List ℕ) → Type 0
-AreKnown known paths = All (IsKnown known) paths
 
 place_kept : (p : List ℕ → Bool) (xs ys : List (List ℕ)) → list_any p xs ≡ true → position_or_len p (xs ++ ys) ≡ position_or_len p xs
 place_kept p [] ys h = absurd (true≢false (sym h))

@@ -18,17 +18,12 @@ use Rattle.pk_base.specs.Paths.{folder_of}
 use Rattle.pk_types.specs.declared.facts.Kind.TheVariants.{Json}
 use Rattle.pk_types.specs.declared.graph.Row.{Row}
 use Rattle.watch_core.proofs.Looking.{with_more}
-use Rattle.watch_core.proofs.WalkPaths.{IsThere, AreKnown, numbers_kept, stay_known, all_known, files_there, all_with}
-use Rattle.watch_core.specs.Followed.{IsFollowed, source_bytes, row_asks, rows_asks}
+use Rattle.watch_core.proofs.WalkPaths.{IsThere, numbers_kept, stay_known, all_known, files_there, all_with}
+use Rattle.watch_core.specs.Followed.{AreKnown, IsFollowed, source_bytes, row_asks, rows_asks}
 use Rattle.watch_core.specs.Modules.{IsModule, facts_of, imported, module_asks}
 use Rattle.watch_core.specs.Visits.{IsVisited, IsModuleTextOf, IsText}
 use Rattle.watch_core.specs.declared.module.Visited.{Visited}
 use Rattle.watch_core.specs.declared.walk.Walker.{Walker}
-
--- the row and the body are followed, and the targets are known
-pub record IsFollowedIn (t : Held) (known : List (List ℕ)) (row : Row) (body : Body) : Type 0 where
-  pub is : IsFollowed t known row body
-  pub leads : AreKnown known is.targets
 
 -- what holds of a walk from an entry, whatever the files are
 pub record IsWalking (entry : List ℕ) (walker : Walker) : Type 0 where
@@ -43,7 +38,7 @@ pub record IsWalking (entry : List ℕ) (walker : Walker) : Type 0 where
 
 -- what holds of it in a tree, where something stands at the entry
 pub record HasFollowed (t : Held) (walker : Walker) : Type 0 where
-  pub each : AllZip (IsFollowedIn t walker.builder.known) walker.builder.rows walker.bodies.items
+  pub each : AllZip (IsFollowed t walker.builder.known) walker.builder.rows walker.bodies.items
   pub there : All (IsThere t) walker.builder.known
 
 -- the wanted module, which was looked at, is added
@@ -61,23 +56,21 @@ imported_texts (text ∷ texts) = ap (λ rest. text ∷ rest) (imported_texts te
 
 -- ---- what was followed stays followed
 
-stays_followed : (t : Held) (known more : List (List ℕ)) (row : Row) (body : Body) → IsFollowedIn t known row body → IsFollowedIn t (known ++ more) row body
+stays_followed : (t : Held) (known more : List (List ℕ)) (row : Row) (body : Body) → IsFollowed t known row body → IsFollowed t (known ++ more) row body
 stays_followed t known more row body h = record {
-  is = record {
-    bytes = h.is.bytes;
-    said = h.is.said;
-    targets = h.is.targets;
-    is = h.is.is;
-    facts = h.is.facts;
-    leads = h.is.leads ∙ sym (numbers_kept known more h.is.targets h.leads);
-    flagged = h.is.flagged;
-    size = h.is.size;
-    body_is = h.is.body_is;
-  };
-  leads = stay_known known more h.is.targets h.leads;
+  bytes = h.bytes;
+  said = h.said;
+  targets = h.targets;
+  is = h.is;
+  facts = h.facts;
+  are_known = stay_known known more h.targets h.are_known;
+  leads = h.leads ∙ sym (numbers_kept known more h.targets h.are_known);
+  flagged = h.flagged;
+  size = h.size;
+  body_is = h.body_is;
 }
 
-pub zip_weaker : (R S : Row → Body → Type 0) → ((row : Row) (body : Body) → R row body → S row body) → (rows : List Row) (bodies : List Body) → AllZip R rows bodies → AllZip S rows bodies
+zip_weaker : (R S : Row → Body → Type 0) → ((row : Row) (body : Body) → R row body → S row body) → (rows : List Row) (bodies : List Body) → AllZip R rows bodies → AllZip S rows bodies
 zip_weaker R S f [] [] h = h
 zip_weaker R S f [] (body ∷ bodies) h = h
 zip_weaker R S f (row ∷ rows) [] h = h
@@ -100,33 +93,31 @@ module _ (t : Held) (old new : Walker) (path : List ℕ) (visited : Visited) (ke
   abbrev new_body : Body
   new_body = record { text = visited.said.body; pieces = [] }
 
-  new_followed : IsFollowedIn t new.builder.known new_row new_body
+  new_followed : IsFollowed t new.builder.known new_row new_body
   new_followed = record {
-    is = record {
-      bytes = v.bytes;
-      said = visited.said;
-      targets = visited.targets.items;
-      is = subst (λ p. IsModule t p v.bytes visited.said visited.targets.items) (sym (wanted_at old.builder path wanted)) v.is;
-      facts = refl;
-      leads = refl;
-      flagged = refl;
-      size = v.size;
-      body_is = refl;
-    };
-    leads = subst (λ known. AreKnown known visited.targets.items) (sym taken.known) (all_known old.builder.known visited.targets.items);
+    bytes = v.bytes;
+    said = visited.said;
+    targets = visited.targets.items;
+    is = subst (λ p. IsModule t p v.bytes visited.said visited.targets.items) (sym (wanted_at old.builder path wanted)) v.is;
+    facts = refl;
+    are_known = subst (λ known. AreKnown known visited.targets.items) (sym taken.known) (all_known old.builder.known visited.targets.items);
+    leads = refl;
+    flagged = refl;
+    size = v.size;
+    body_is = refl;
   }
 
   pub follows_on : HasFollowed t old → HasFollowed t new
   follows_on h =
       let e = extends visited.targets.items old.builder.known in
       let grows : new.builder.known ≡ old.builder.known ++ e.more = taken.known ∙ e.is in
-      let before : AllZip (IsFollowedIn t new.builder.known) old.builder.rows old.bodies.items =
-      zip_weaker (IsFollowedIn t old.builder.known) (IsFollowedIn t new.builder.known)
-      (λ row body f. subst (λ known. IsFollowedIn t known row body) (sym grows) (stays_followed t old.builder.known e.more row body f)) old.builder.rows old.bodies.items h.each in
-      let both = zip_push (IsFollowedIn t new.builder.known) old.builder.rows old.bodies.items new_row new_body before new_followed in
+      let before : AllZip (IsFollowed t new.builder.known) old.builder.rows old.bodies.items =
+      zip_weaker (IsFollowed t old.builder.known) (IsFollowed t new.builder.known)
+      (λ row body f. subst (λ known. IsFollowed t known row body) (sym grows) (stays_followed t old.builder.known e.more row body f)) old.builder.rows old.bodies.items h.each in
+      let both = zip_push (IsFollowed t new.builder.known) old.builder.rows old.bodies.items new_row new_body before new_followed in
       record {
-        each = subst (λ rows. AllZip (IsFollowedIn t new.builder.known) rows new.bodies.items) (sym taken.row)
-            (subst (λ bodies. AllZip (IsFollowedIn t new.builder.known) (old.builder.rows ++ new_row ∷ []) bodies) (sym taken.body) both);
+        each = subst (λ rows. AllZip (IsFollowed t new.builder.known) rows new.bodies.items) (sym taken.row)
+            (subst (λ bodies. AllZip (IsFollowed t new.builder.known) (old.builder.rows ++ new_row ∷ []) bodies) (sym taken.body) both);
         there = subst (All (IsThere t)) (sym taken.known)
             (all_with (IsThere t) old.builder.known visited.targets.items h.there (files_there t (folder_of path) visited.said.requests visited.targets.items v.is.leads));
       }

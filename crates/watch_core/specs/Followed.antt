@@ -1,6 +1,7 @@
 -- The modules of a tree that were followed so far, in the order of their numbers.
-use Rattle.std.specs.Prelude.{◌≡◌, ℕ, ◌≤◌, List, [], ◌∷◌, map, take, length, false}
-use Rattle.std.specs.List.{AllZip, flat_map, sum_by}
+use Rattle.std.specs.Prelude.{◌≡◌, ℕ, ◌≤◌, List, [], ◌∷◌, map, take, length, true, false}
+use Rattle.std.specs.List.{All, AllZip, flat_map, list_any, sum_by}
+use Rattle.std.specs.Str.{bytes_eq}
 use Rattle.pk_base.specs.Calls.{Held}
 use Rattle.pk_types.specs.declared.graph.Row.{Row}
 use Rattle.emit_body.specs.declared.body.Body.{Body}
@@ -10,13 +11,20 @@ use Rattle.module_graph.specs.Known.{numbers_in}
 use Rattle.module_graph.specs.ModuleOrder.{IsModuleOrder}
 use Rattle.watch_core.specs.Modules.{IsModule, facts_of, module_asks}
 
--- the row and the body are those of the tree's module at a path, whose targets have their numbers among the known paths
+abbrev pub IsKnown : List (List ℕ) → List ℕ → Type 0
+IsKnown known path = list_any (bytes_eq path) known ≡ true
+
+abbrev pub AreKnown : List (List ℕ) → List (List ℕ) → Type 0
+AreKnown known paths = All (IsKnown known) paths
+
+-- the row and the body are those of the tree's module at a path; each of its targets is known, and has its number there
 pub record IsFollowed (t : Held) (known : List (List ℕ)) (row : Row) (body : Body) : Type 0 where
   pub bytes : List ℕ
   pub said : ModuleText
   pub targets : List (List ℕ)
   pub is : IsModule t row.label bytes said targets
   pub facts : row.facts ≡ facts_of said
+  pub are_known : AreKnown known targets
   pub leads : row.targets ≡ numbers_in known targets
   pub flagged : row.flagged ≡ false
   pub size : row.size ≡ length bytes
@@ -25,7 +33,7 @@ pub record IsFollowed (t : Held) (known : List (List ℕ)) (row : Row) (body : B
 abbrev pub source_bytes : List Row → ℕ
 source_bytes rows = sum_by (λ row. row.size) rows
 
--- The modules begin with that of the entry and stand in order. Those that have rows were followed, and each further one is known by a request of these.
+-- The modules begin with that of the entry and stand in order. Those that have rows were followed: their targets are known, and each known path is that of the entry or of such a target.
 pub record AreFollowed (t : Held) (entry : List ℕ) (building : Building) (bodies : List Body) : Type 0 where
   pub first : take 1 building.known ≡ entry ∷ []
   pub entries : building.entries ≡ 0 ∷ []

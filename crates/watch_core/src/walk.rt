@@ -1,5 +1,5 @@
 // The modules of a tree.
-ghost use Rattle.std.specs.Prelude.{◌≡◌, ◌+◌, ◌<◌, ◌≤◌, ◌++◌, ◌∷◌, [], List, ℕ, Err, IfOk, OnOk, OnErr, IsTrue, false, length};
+ghost use Rattle.std.specs.Prelude.{◌≡◌, ◌≢◌, ◌+◌, ◌<◌, ◌≤◌, ◌++◌, ◌∷◌, [], List, ℕ, Err, IfOk, OnOk, OnErr, IsTrue, false, length};
 ghost use Rattle.std.specs.Map.{keys_of};
 ghost use Rattle.module_graph.specs.Building.{IsWanting, row_of};
 ghost use Rattle.module_graph.specs.Known.{with_paths};
@@ -44,6 +44,7 @@ impl Walker {
         ensures entries { IfOk result (λ walker. walker.builder.entries ≡ 0 ∷ []) }
         ensures bodies { IfOk result (λ walker. walker.bodies.items ≡ []) }
         ensures source_bytes { IfOk result (λ walker. walker.source_bytes ≡ 0) }
+        ensures one { result ≢ Err GraphFault.TooMany }
     {
         let mut entries = Vec::new(alloc);
         entries.push(entry)?;
@@ -101,8 +102,10 @@ pub fn walk<F: Files>(
     ensures coming { (F.means files.new).coming ≡ (F.means files.old).coming }
     ensures counts { Counts (is_failed result) ((F.means files.old).faults) ((F.means files.new).faults) }
 {
-    let Ok(mut walker) = Walker::new(alloc, entry) else {
-        return Err(ReadFail::NoMemory);
+    let mut walker = match Walker::new(alloc, entry) {
+        Ok(walker) => walker,
+        Err(GraphFault::NoMemory) => return Err(ReadFail::NoMemory),
+        Err(GraphFault::TooMany) => unreachable!(),
     };
     'modules: while let Some(number) = walker.builder.next_wanted() {
         let path = walker.builder.path_of(number);

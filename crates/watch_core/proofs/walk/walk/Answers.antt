@@ -10,11 +10,11 @@ returns-in_err-visited-clause-sees g c = λ t h. c.in_err-visited.ensures.sees t
 pub returns-in-Err-clause-sees : goal.returns-in-Err-clause-sees
 returns-in-Err-clause-sees g c = λ t h. c.in_ok-visited.ensures.sees t (c.modules.invariant.sees t h)
 
-pub returns-in-Err-TooMany-clause-sees : goal.returns-in-Err-TooMany-clause-sees
-returns-in-Err-TooMany-clause-sees g c = λ t h. c.in_ok-visited.ensures.sees t (c.modules.invariant.sees t h)
+pub returns-in-Err-TooMany-take-clause-sees : goal.returns-in-Err-TooMany-take-clause-sees
+returns-in-Err-TooMany-take-clause-sees g c = λ t h. c.in_ok-visited.ensures.sees t (c.modules.invariant.sees t h)
 
-pub returns-in-Err-NoMemory-clause-sees : goal.returns-in-Err-NoMemory-clause-sees
-returns-in-Err-NoMemory-clause-sees g c = λ t h. c.in_ok-visited.ensures.sees t (c.modules.invariant.sees t h)
+pub returns-in-Err-NoMemory-take-clause-sees : goal.returns-in-Err-NoMemory-take-clause-sees
+returns-in-Err-NoMemory-take-clause-sees g c = λ t h. c.in_ok-visited.ensures.sees t (c.modules.invariant.sees t h)
 
 pub returns-in-Err-clause-value : goal.returns-in-Err-clause-value
 returns-in-Err-clause-value g c = λ t h entry.
@@ -26,8 +26,8 @@ returns-in-Err-clause-value g c = λ t h entry.
     refuses t c.args.entry walker c.modules.invariant.walking followed c.in-Some.ensures.labels c.in-Some.ensures.order path c.in-Err.fault (keys_of c.args.sights.now) keys (keys_of c.visit.new.sights) wanted (c.modules.invariant.keys t h entry)
     (looked t walker path keys (keys_of c.visit.new.sights) _ _ wanted followed c.in-Err.is (c.in_ok-visited.ensures.value t (c.modules.invariant.sees t h)))
 
-pub returns-in-Err-TooMany-clause-value : goal.returns-in-Err-TooMany-clause-value
-returns-in-Err-TooMany-clause-value g c = λ t h entry.
+pub returns-in-Err-TooMany-take-clause-value : goal.returns-in-Err-TooMany-take-clause-value
+returns-in-Err-TooMany-take-clause-value g c = λ t h entry.
     let walker = c.modules.walker in
     let path = c.path_of-path.result.now in
     let keys = keys_of c.modules.sights in
