@@ -1,0 +1,4 @@
+import "./setup.js";
+import "./pages/home.js";
+
+start("app");

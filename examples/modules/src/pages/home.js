@@ -1,0 +1,3 @@
+import "../setup.js";
+
+show("home", 1);

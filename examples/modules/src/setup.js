@@ -1,0 +1,1 @@
+configure("language", 'en');
