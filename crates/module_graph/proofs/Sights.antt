@@ -50,11 +50,11 @@ module _ (p : List ℕ → Bool) where
           let below : position_or_len p xs < length xs = rest (sym (ap (λ b. b || list_any p xs) f) ∙ h) in
           subst (λ b. cond (not b) (1 + position_or_len p xs) 0 < suc (length xs)) (sym f) (omega arith)
 
-same : (path : List ℕ) → bytes_eq path path ≡ true
+pub same : (path : List ℕ) → bytes_eq path path ≡ true
 same path = (bytes_decides path path).1 refl
 
 -- a known path stands at its number
-at_number : (known : List (List ℕ)) (path : List ℕ) → list_any (bytes_eq path) known ≡ true → slice_get known (number_in known path) ≡ Some path
+pub at_number : (known : List (List ℕ)) (path : List ℕ) → list_any (bytes_eq path) known ≡ true → slice_get known (number_in known path) ≡ Some path
 at_number [] path h = absurd (true≢false (sym h))
 at_number (x ∷ xs) path h = by (at_number xs path) (bytes_eq path x) refl
   where
