@@ -1,0 +1,64 @@
+-- The tokens of what is assigned to stand where their production does.
+use Rattle.std.specs.Prelude.{ℕ, Some, None}
+use Rattle.es_tree.specs.declared.cycle.Target.{Target}
+use Rattle.es_tree.specs.declared.cycle.TargetPart.{TargetPart}
+use Rattle.es_tree.specs.declared.cycle.Target.TheVariants as target_v
+use Rattle.es_tree.specs.Yield.{target_tokens, target_part_tokens}
+use Rattle.es_grammar.specs.Contexts.{Context}
+use Rattle.es_grammar.specs.Reading.{Bytes}
+use Rattle.es_grammar.specs.Rules.{Rules}
+use Rattle.es_grammar.specs.Targets.{SimpleTargetAt, TargetAt, TargetElementAt, TargetPropertyAt, TargetPatternAt}
+use Rattle.es_grammar.specs.Tokens.{TokensAt}
+use Rattle.es_grammar.proofs.Laws.{target-Name, target-Member, target-Paren, target-Array, target-Object}
+use Rattle.es_grammar.proofs.Rolled.{target_part_rolled}
+use Rattle.es_grammar.proofs.Standing.{over, nothing, mark_at, name_at, list_stands, each_stands, elements_stand, each_element_stands, rest_stands, ◌▹◌}
+use Rattle.es_grammar.proofs.Tells.{Tells}
+use Rattle.es_grammar.proofs.FunctionsTokens.{initializer_stands, property_key_stands}
+use Rattle.es_grammar.proofs.ExpressionsTokens.{lhs_stands}
+
+pub simple_target_stands : {text : Bytes} {r : Rules} {c : Context} {p : ℕ} {x : Target} {q : ℕ} (t : Tells text r) → SimpleTargetAt text r c p x q
+    → TokensAt text p (target_tokens x) q
+simple_target_stands t (SimpleTargetAt.name token h1) = over (target-Name token) (name_at h1)
+simple_target_stands t (SimpleTargetAt.member x h1 h2) = over (target-Member x) (lhs_stands t h1)
+simple_target_stands t (SimpleTargetAt.paren left x right h1 h2 h3) =
+    over (target-Paren left x right) (mark_at h1 ▹ simple_target_stands t h2 ▹ mark_at h3)
+
+pub target_stands : {text : Bytes} {r : Rules} {c : Context} {p : ℕ} {x : Target} {q : ℕ} (t : Tells text r) → TargetAt text r c p x q
+    → TokensAt text p (target_tokens x) q
+target_stands t (TargetAt.simple x h1) = simple_target_stands t h1
+target_stands t (TargetAt.pattern x h1) = t.target_pattern _ _ _ _ h1
+
+pub target_element_stands : {text : Bytes} {r : Rules} {c : Context} {p : ℕ} {x : TargetPart} {q : ℕ} (t : Tells text r)
+    → TargetElementAt text r c p x q → TokensAt text p (target_part_tokens x) q
+target_element_stands t (TargetElementAt.plain x h1) =
+    over (target_part_rolled (record { key = None; target = x; initial = None })) (target_stands t h1 ▹ nothing)
+target_element_stands t (TargetElementAt.initialised x i h1 h2) =
+    over (target_part_rolled (record { key = None; target = x; initial = Some i })) (target_stands t h1 ▹ initializer_stands t h2)
+
+pub target_property_stands : {text : Bytes} {r : Rules} {c : Context} {p : ℕ} {x : TargetPart} {q : ℕ} (t : Tells text r)
+    → TargetPropertyAt text r c p x q → TokensAt text p (target_part_tokens x) q
+target_property_stands t (TargetPropertyAt.keyed k x h1 h2) =
+    over (target_part_rolled (record { key = Some k; target = x; initial = None })) (property_key_stands t h1 ▹ target_stands t h2 ▹ nothing)
+target_property_stands t (TargetPropertyAt.keyed_initialised k x i h1 h2 h3) =
+    over (target_part_rolled (record { key = Some k; target = x; initial = Some i })) (property_key_stands t h1 ▹ target_stands t h2
+    ▹ initializer_stands t h3)
+target_property_stands t (TargetPropertyAt.name token h1) =
+    over (target_part_rolled (record { key = None; target = target_v.Name token; initial = None })) (over (target-Name token) (name_at h1) ▹ nothing)
+target_property_stands t (TargetPropertyAt.name_initialised token i h1 h2) =
+    over (target_part_rolled (record { key = None; target = target_v.Name token; initial = Some i })) (over (target-Name token) (name_at h1)
+    ▹ initializer_stands t h2)
+
+pub target_pattern_stands : {text : Bytes} {r : Rules} {c : Context} {p : ℕ} {x : Target} {q : ℕ} (t : Tells text r) → TargetPatternAt text r c p x q
+    → TokensAt text p (target_tokens x) q
+target_pattern_stands t (TargetPatternAt.array left xs right h1 h2 h3) =
+    over (target-Array left xs None right) (mark_at h1 ▹ elements_stand target_part_tokens h2 (λ p x q h. target_element_stands t h) ▹ nothing
+    ▹ mark_at h3)
+target_pattern_stands t (TargetPatternAt.array_rest left xs x right h1 h2 h3 h4) =
+    over (target-Array left xs (Some x) right) (mark_at h1 ▹ each_element_stands target_part_tokens h2 (λ p x q h. target_element_stands t h)
+    ▹ rest_stands target_tokens h3 (λ p x q h. target_stands t h) ▹ mark_at h4)
+target_pattern_stands t (TargetPatternAt.object left xs right h1 h2 h3) =
+    over (target-Object left xs None right) (mark_at h1 ▹ list_stands target_part_tokens h2 (λ p x q h. target_property_stands t h) ▹ nothing
+    ▹ mark_at h3)
+target_pattern_stands t (TargetPatternAt.object_rest left xs x right h1 h2 h3 h4) =
+    over (target-Object left xs (Some x) right) (mark_at h1 ▹ each_stands target_part_tokens h2 (λ p x q h. target_property_stands t h)
+    ▹ rest_stands target_tokens h3 (λ p x q h. simple_target_stands t h) ▹ mark_at h4)

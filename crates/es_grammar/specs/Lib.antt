@@ -1,0 +1,14 @@
+pub mod Contexts
+pub mod Reading
+pub mod Semicolons
+pub mod Lists
+pub mod Rules
+pub mod Functions
+pub mod Expressions
+pub mod Targets
+pub mod Operators
+pub mod Statements
+pub mod Modules
+pub mod Parses
+pub mod Tokens
+pub mod Nests
