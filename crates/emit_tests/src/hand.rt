@@ -8,7 +8,10 @@ ghost use Rattle.emit_chunk.specs.Ranges.{AreBelow, module_of};
 
 use emit_body::Body;
 use emit_chunk::entry_file;
-use pk_types::{Chunks, Facts, Graph, Groups, Hoists, Ids, Item, Kind, Plan, Row, Sequence, Text};
+use pk_types::{
+    Active, Chunks, Facts, Graph, Groups, Hoists, Ids, Item, Kind, Name, Plan, Row, Sequence, Text,
+    Used,
+};
 use std::alloc::{AllocError, Global};
 
 fn none<T>(alloc: Global) -> Sequence<T> {
@@ -74,14 +77,47 @@ fn two_bodies(alloc: Global) -> Result<Sequence<Body>, AllocError>
     Ok(Sequence::from_vec(bodies))
 }
 
+// Both modules are reached, and the entry has an edge to the other one.
+fn two_active(alloc: Global) -> Result<Active, AllocError> {
+    let mut edges = Vec::new(alloc);
+    edges.push(Sequence::from_vec(vec![in alloc; 1]?))?;
+    edges.push(Sequence::from_vec(Vec::new(alloc)))?;
+    Ok(Active {
+        edges: Sequence::from_vec(edges),
+        reached: Sequence::from_vec(vec![in alloc; true, true]?),
+    })
+}
+
+// No name for each of the two modules.
+fn no_names(alloc: Global) -> Result<Sequence<Sequence<Name>>, AllocError> {
+    let mut names = Vec::new(alloc);
+    names.push(Sequence::from_vec(Vec::new(alloc)))?;
+    names.push(Sequence::from_vec(Vec::new(alloc)))?;
+    Ok(Sequence::from_vec(names))
+}
+
+// Nothing of the two modules is used by name.
+fn none_used(alloc: Global) -> Result<Used, AllocError> {
+    Ok(Used {
+        names: no_names(alloc)?,
+        whole: Sequence::from_vec(vec![in alloc; false, false]?),
+    })
+}
+
 #[tactic(auto, using(crate::proofs::Few::all_one))]
 fn one_group(alloc: Global) -> Result<Groups, AllocError>
     ensures below { IfOk result (λ groups. AreBelow 2 groups.targets) }
     ensures one { IfOk result (λ groups. length groups.targets ≡ 1) }
 {
+    let mut closures = Vec::new(alloc);
+    closures.push(Sequence::from_vec(vec![in alloc; 0, 1]?))?;
+    let mut leads = Vec::new(alloc);
+    leads.push(Sequence::from_vec(Vec::new(alloc)))?;
     Ok(Groups {
         targets: Sequence::from_vec(vec![in alloc; 0]?),
         entries: 1,
+        closures: Sequence::from_vec(closures),
+        leads: Sequence::from_vec(leads),
     })
 }
 
@@ -133,9 +169,12 @@ pub fn two_modules_file(alloc: Global) -> Result<Text, AllocError> {
     let graph = two_rows(alloc)?;
     let bodies = two_bodies(alloc)?;
     let plan = Plan {
+        active: two_active(alloc)?,
+        used: none_used(alloc)?,
         groups: one_group(alloc)?,
         chunks: one_chunk(alloc)?,
         hoists: two_scopes(alloc)?,
+        names: no_names(alloc)?,
         ids: two_ids(alloc)?,
     };
     let hashes = Sequence::from_vec(Vec::new(alloc));

@@ -1,15 +1,21 @@
 -- What a round that was built has answered and left.
-use Rattle.std.proofs.Common.{◌≡◌, ℕ, List, [], length, Ok, IsTrue, ap, ◌∙◌}
+use Rattle.std.proofs.Common.{◌≡◌, ℕ, List, [], length, false, Result, Ok, Err, IsTrue, refl, sym, ap, subst, ◌∙◌, arith}
+use Rattle.std.proofs.lemmas.Bool.{false≢true}
 use Rattle.std.specs.Prelude.{slice_index_or}
+use Rattle.pk_base.specs.Causes.{Counts}
 use Rattle.pk_base.specs.Meanings.{FilesMeaning, StoreMeaning}
 use Rattle.pk_types.specs.declared.plan.Plan.{Plan}
 use Rattle.plan_core.specs.Outputs.{output_of}
 use Rattle.plan_core.specs.Plans.{IsPlan}
+use Rattle.watch_core.specs.Asking.{AsksOnce}
 use Rattle.watch_core.specs.Builds.{FindsBehind}
 use Rattle.watch_core.specs.Walks.{IsWritable}
 use Rattle.watch_core.specs.declared.walk.Found.{Found}
+use Rattle.pack_cli.specs.declared.faults.RoundFault.{RoundFault}
+use Rattle.pack_cli.specs.declared.faults.RoundFault.TheVariants.{NoMemory}
+use Rattle.pack_cli.specs.Answers.{is_write_fault}
 use Rattle.pack_cli.specs.Output.{Bundle, Files, IsBundle, built_lines}
-use Rattle.pack_cli.specs.Round.{HoldsOutput, HasLostPut, IsBuilt, IsUnwritten}
+use Rattle.pack_cli.specs.Round.{AsksFiles, HoldsOutput, HasLostPut, IsBuilt, IsUnwritten}
 
 abbrev pub bundle : Files → ℕ → ℕ → Bundle
 bundle files modules groups = record { files = files; modules = modules; groups = groups }
@@ -32,3 +38,17 @@ built lines found files modules groups old new store store_after h f l put = rec
 pub unwritten : (found : Found) (files : Files) (modules groups : ℕ) (old new : FilesMeaning) (store store_after : StoreMeaning) → IsBundle found (bundle files modules groups)
     → (IsTrue old.told → FindsBehind old.tree old.asks new.asks (Ok found)) → HasLostPut files store store_after → IsUnwritten old new store store_after
 unwritten found files modules groups old new store store_after h f lost = record { found = found; bundle = bundle files modules groups; made = h; of_tree = f; store_lost = lost }
+
+-- ---- a round that ends for want of memory once its modules are found
+
+abbrev pub refusal : RoundFault → Result (List ℕ) RoundFault
+refusal fault = Err fault
+
+pub no_memory_asks : (answer : Result (List ℕ) RoundFault) (fault : RoundFault) (old new : FilesMeaning) → answer ≡ refusal fault → fault ≡ NoMemory
+    → new.told ≡ old.told → new.tree ≡ old.tree → new.coming ≡ old.coming → AsksOnce old.asks new.asks → Counts false old.faults new.faults → AsksFiles answer old new
+no_memory_asks answer fault old new is f told tree coming asks faults = subst (λ answer. AsksFiles answer old new) (sym (is ∙ ap refusal f))
+    (record { told = told; tree = tree; coming = coming; asks = asks; faults = faults })
+
+pub no_memory_writes : (answer : Result (List ℕ) RoundFault) (fault : RoundFault) (count : ℕ) → answer ≡ refusal fault → fault ≡ NoMemory → Counts (is_write_fault answer) count count
+no_memory_writes answer fault count is f = subst (λ answer. Counts (is_write_fault answer) count count) (sym (is ∙ ap refusal f))
+    (record { later = omega arith; rose = λ e. absurd (false≢true e); kept = λ e. refl })

@@ -35,12 +35,13 @@ pub struct Facts {
     pub exports: Sequence<ExportEntry>,
     /// The requests of `export * from`.
     pub stars: Sequence<u32>,
-    /// What the module declares at its top.
+    /// What the module declares at its top, in the order of places.
     pub bindings: Sequence<Binding>,
     pub sites: Sequence<Site>,
     /// The names that it uses without declaring them, in byte order, each once.
     pub free: Sequence<Name>,
-    /// The names that its inner scopes declare (the top is none of these), in byte order, each once.
+    /// The names that its inner scopes declare, in byte order, each once. The top is none of these, and neither is the scope
+    /// that holds the name of a class declared at the top.
     pub inner: Sequence<Name>,
 }
 
@@ -84,7 +85,7 @@ pub enum Origin {
     Space(u32),
 }
 
-/// A declaration at the top of a module.
+/// A declaration at the top of a module. An `export default` without a name declares `__webpack_default`.
 #[derive(Debug, Drop)]
 pub struct Binding {
     pub name: Name,

@@ -3,6 +3,7 @@
 
 mod facts;
 mod form;
+mod found;
 mod graph;
 mod plan;
 mod sequence;
@@ -14,8 +15,9 @@ pub use facts::{
     Site, SiteKind,
 };
 pub use form::Form;
+pub use found::Found;
 pub use graph::{Graph, Row};
-pub use plan::{Chunks, Groups, Hoists, Ids, Item, Plan};
+pub use plan::{Active, Chunks, Groups, Hoists, Ids, Item, Plan, Used};
 pub use sequence::Sequence;
 pub use settings::{CacheGroup, Config, SplitConfig, Which};
 pub use text::{Key, Text};

@@ -12,14 +12,20 @@ pub struct Config {
     pub split: Option<SplitConfig>,
 }
 
-/// How modules that several chunks hold are split into chunks of their own.
+/// How modules are split off into chunks of their own.
 #[derive(Debug, Drop)]
 pub struct SplitConfig {
+    /// From which chunks modules are split, where a cache group says nothing of its own.
     pub chunks: Which,
+    /// At least so many bytes are split, where a cache group says nothing of its own.
     pub min_size: u32,
+    /// From so many bytes on the limits of requests don't count.
     pub enforce: u32,
+    /// What is split stands in at least so many chunks, where a cache group says nothing of its own.
     pub min_chunks: u32,
+    /// How many chunks a group of an `import()` may load.
     pub max_async: u32,
+    /// How many chunks a group of an entry may load, its entry chunk among them.
     pub max_initial: u32,
     /// In byte order of their names, without those that are given as false.
     pub groups: Sequence<CacheGroup>,
@@ -41,7 +47,12 @@ pub struct CacheGroup {
 /// Which chunks modules are split from.
 #[derive(Clone, Copy, Debug, PartialEq, Eq)]
 pub enum Which {
+    /// All but entry chunks.
     Async,
+
+    /// Entry chunks.
     Initial,
+
+    /// Every chunk.
     All,
 }

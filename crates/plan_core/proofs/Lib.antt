@@ -1,5 +1,6 @@
 mod EntryPlans
 mod FirstPlaces
+mod Keeping
 mod Ranges
 mod Search
 mod Within

@@ -12,6 +12,11 @@ use Rattle.plan_core.specs.Scopes.{items_along, scope_items}
 pub range_more : (n : ℕ) → range_with_len 0 (n + 1) ≡ range_with_len 0 n ++ n ∷ []
 range_more n = sym (map-id (range_with_len 0 (n + 1))) ∙ map-range_with_len_more (λ k. k) 0 n n (omega arith) ∙ ap (λ l. l ++ n ∷ []) (map-id (range_with_len 0 n))
 
+-- ---- the answers of a test
+
+pub flags_more : (p : ℕ → Bool) (n : ℕ) → map p (range_with_len 0 (n + 1)) ≡ map p (range_with_len 0 n) ++ p n ∷ []
+flags_more p n = map-range_with_len_more p 0 n n (omega arith)
+
 -- ---- those that pass a test
 
 pub passes_more : (p : ℕ → Bool) (n : ℕ) → p n ≡ true → filter p (range_with_len 0 (n + 1)) ≡ filter p (range_with_len 0 n) ++ n ∷ []

@@ -129,3 +129,18 @@ pub place_within : (edges : List (List ℕ)) (from : ℕ) (known : List ℕ) (pl
     → IsSearch edges from known place → IsDistinct nat_eq known → place < length known → place < length edges
 place_within edges from known place first all so_far distinct at =
     omega (arith, length-le_from_distinct_below known (length edges) distinct (λ q h. below edges from first all q (so_far.sound q (Contains-from_any exact_unsigned_eq q known h))))
+
+-- ---- other edges that are the same wherever the search comes
+
+pub same_reached : (edges others : List (List ℕ)) (from : ℕ) → ((number : ℕ) → IsReached edges from number → get_or edges number [] ≡ get_or others number [])
+    → (number : ℕ) → IsReached edges from number → IsReached others from number
+same_reached edges others from same number itself = itself
+same_reached edges others from same other (along number target reaches edge) =
+    along number target (same_reached edges others from same number reaches) (subst (λ l. Contains l target) (same number reaches) edge)
+
+pub reached_same : (edges others : List (List ℕ)) (from : ℕ) → ((number : ℕ) → IsReached edges from number → get_or edges number [] ≡ get_or others number [])
+    → (number : ℕ) → IsReached others from number → IsReached edges from number
+reached_same edges others from same number itself = itself
+reached_same edges others from same other (along number target reaches edge) =
+    let before = reached_same edges others from same number reaches in
+    along number target before (subst (λ l. Contains l target) (sym (same number before)) edge)

@@ -1,5 +1,5 @@
 -- The modules that edges lead to from a module, in any number of steps.
-use Rattle.std.specs.Prelude.{◌↔◌, ℕ, nat_eq, List, [], slice_index_or}
+use Rattle.std.specs.Prelude.{◌↔◌, ℕ, Bool, nat_eq, List, [], map, slice_index_or}
 use Rattle.std.specs.List.{Contains, filter, list_any, range_with_len}
 use Rattle.std.specs.List.Sorted.{IsStrictlyIncreasing}
 
@@ -15,3 +15,7 @@ pub record IsClosure (edges : List (List ℕ)) (from : ℕ) (modules : List ℕ)
 -- those of the first modules that are known, by number; only private clauses cite it
 abbrev pub known_below : List ℕ → ℕ → List ℕ
 known_below known count = filter (λ number. list_any (nat_eq number) known) (range_with_len 0 count)
+
+-- which of the first modules are known; only private clauses cite it
+abbrev pub known_flags : List ℕ → ℕ → List Bool
+known_flags known count = map (λ number. list_any (nat_eq number) known) (range_with_len 0 count)

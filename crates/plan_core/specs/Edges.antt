@@ -1,6 +1,6 @@
--- The active edges of a module: the modules that its declarations lead to.
-use Rattle.std.specs.Prelude.{ℕ, not, ◌==◌, List, [], ◌∷◌, map, slice_index}
-use Rattle.std.specs.List.{filter}
+-- The edges of modules: those that their declarations lead to, and which of them are active.
+use Rattle.std.specs.Prelude.{ℕ, Bool, false, not, ◌==◌, List, [], ◌∷◌, length, map, if◌then◌else◌, slice_index, slice_index_or}
+use Rattle.std.specs.List.{filter, range_with_len}
 use Rattle.pk_types.specs.declared.graph.Graph.{Graph}
 use Rattle.pk_types.specs.declared.graph.Row.{Row}
 
@@ -17,6 +17,14 @@ declared_targets row = map (slice_index row.targets) row.facts.order
 abbrev pub edges_of : Row → List ℕ
 edges_of row = first_places (declared_targets row)
 
--- the edges of each module, by number
-abbrev pub active_edges : Graph → List (List ℕ)
-active_edges graph = map edges_of graph.rows
+-- the edges that the declarations of each module give, by number
+abbrev pub declared_edges : Graph → List (List ℕ)
+declared_edges graph = map edges_of graph.rows
+
+-- a module that is reached has its edges, and another one has none
+abbrev pub edges_where : List Bool → List (List ℕ) → ℕ → List ℕ
+edges_where reached edges number = if slice_index_or reached number false then slice_index_or edges number [] else []
+
+-- the active edges of each module, by number
+abbrev pub active_edges : List Bool → List (List ℕ) → List (List ℕ)
+active_edges reached edges = map (edges_where reached edges) (range_with_len 0 (length edges))

@@ -2,7 +2,7 @@
 ghost use Rattle.std.specs.Prelude.{◌≡◌, ◌↔◌, ℕ, ◌<◌, nat_eq, length, IfOk, OnOk};
 ghost use Rattle.std.specs.List.{All, Contains};
 ghost use Rattle.indexmap.specs.IndexSet.{insert_all};
-ghost use Rattle.plan_core.specs.Closure.{IsReached, known_below};
+ghost use Rattle.plan_core.specs.Closure.{IsReached, known_below, known_flags};
 
 use indexmap::IndexSet;
 use pk_types::Sequence;
@@ -52,4 +52,16 @@ pub fn by_number(alloc: Global, set: &IndexSet<u32>, count: u32) -> Result<Vec<u
         }
     }
     Ok(modules)
+}
+
+/// Which of the first `count` modules are in a set.
+#[tactic(auto, using(crate::proofs::Ranges::flags_more))]
+pub fn flags(alloc: Global, set: &IndexSet<u32>, count: u32) -> Result<Vec<bool>, AllocError>
+    ensures { IfOk result (λ flags. flags.items ≡ known_flags set.now.keys count) }
+{
+    let mut flags = Vec::with_capacity(alloc, count as usize)?;
+    for number in 0..count {
+        flags.push(set.contains(&number))?;
+    }
+    Ok(flags)
 }

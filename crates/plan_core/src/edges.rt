@@ -1,5 +1,5 @@
-// The active edges of modules.
-ghost use Rattle.std.specs.Prelude.{◌≡◌, IfOk};
+// The edges of modules.
+ghost use Rattle.std.specs.Prelude.{◌≡◌, length, IfOk};
 ghost use Rattle.pk_types.specs.Fitting.{Fits};
 ghost use Rattle.pk_types.specs.Places.{ArePlacesIn};
 ghost use Rattle.plan_core.specs.Edges as spec;
@@ -22,15 +22,32 @@ fn edges_of(alloc: Global, row: &Row) -> Result<Sequence<u32>, AllocError>
     Ok(Sequence::from_vec(Vec::from_slice(alloc, seen.as_slice())?))
 }
 
-/// The edges of each module, by number.
+/// The edges that the declarations of each module give, by number.
 #[tactic(auto, using(crate::proofs::Within::order_in_targets))]
-pub fn active_edges(alloc: Global, graph: &Graph) -> Result<Vec<Sequence<u32>>, AllocError>
+pub fn declared_edges(alloc: Global, graph: &Graph) -> Result<Vec<Sequence<u32>>, AllocError>
     requires { Fits graph.now }
-    ensures { IfOk result (λ edges. edges.items ≡ spec.active_edges graph.now) }
+    ensures { IfOk result (λ edges. edges.items ≡ spec.declared_edges graph.now) }
 {
     let mut edges = Vec::with_capacity(alloc, graph.rows.len())?;
     for row in graph.rows.as_slice() {
         edges.push(edges_of(alloc, row)?)?;
     }
     Ok(edges)
+}
+
+/// The active edges of each module, by number: those of modules that are reached stay, and the others go.
+pub fn active_edges(
+    alloc: Global,
+    mut edges: Vec<Sequence<u32>>,
+    reached: &[bool],
+) -> Vec<Sequence<u32>>
+    requires { length reached.now ≡ length edges.items }
+    ensures { result.items ≡ spec.active_edges reached.now edges.items }
+{
+    for (number, is_reached) in reached.iter().enumerate() {
+        if !*is_reached {
+            edges[number] = Sequence::from_vec(Vec::new(alloc));
+        }
+    }
+    edges
 }

@@ -1,7 +1,6 @@
--- the edges of the rows so far
-use Rattle.std.proofs.Common.{◌≡◌, map, take}
-use Rattle.plan_core.specs.Edges.{edges_of}
+-- the edges so far
+use Rattle.plan_core.proofs.Keeping.{IsKept}
 use Rattle.plan_core.proofs.edges.active_edges.Given as goal
 
-abbrev pub invariant-loop-row : goal.invariant-loop-row
-invariant-loop-row l = l.edges.items ≡ map edges_of (take l.row-index l.row-items)
+abbrev pub invariant-loop-number : goal.invariant-loop-number
+invariant-loop-number l = IsKept l.reached l.fn.edges.items l.edges.items l.number

@@ -1,0 +1,30 @@
+//! Makes programs item by item, and lets them go. Whoever owns a tree's types by itself proves the drops of all of them,
+//! which takes long; so they are proved here, once.
+#![tactic(auto)]
+
+ghost use Rattle.std.specs.Prelude.{◌≡◌, ◌++◌, ◌∷◌, [], OnOk, OnErr};
+
+use es_tree::{Program, ProgramGoal, ProgramItem};
+use sqlite_items::Items;
+use std::alloc::{AllocError, Global};
+
+/// A program without items.
+pub fn empty(alloc: Global, goal: ProgramGoal) -> Program
+    ensures { result ≡ record { goal = goal; items = [] } }
+{
+    Program {
+        goal,
+        items: Items::new(alloc),
+    }
+}
+
+/// Adds an item behind those that the program has. Where memory runs out the item is let go.
+pub fn add(program: &mut Program, item: ProgramItem) -> Result<(), AllocError>
+    ensures ok { OnOk result (program.new ≡ record { goal = program.old.goal; items = program.old.items ++ item ∷ [] }) }
+    ensures err { OnErr result (program.new ≡ program.old) }
+{
+    program.items.push(item)
+}
+
+/// Lets the program go. A crate that owns programs calls this on each path, and so proves no drop of the tree's types.
+pub fn let_go(_program: Program) {}

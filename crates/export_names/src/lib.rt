@@ -1,0 +1,11 @@
+//! The names that a module exports, and what they stand for.
+#![tactic(auto)]
+
+mod found;
+mod law;
+mod resolve;
+mod step;
+
+pub use law::resolves_to_one;
+pub use pk_types::Found;
+pub use resolve::resolve_export;

@@ -1,0 +1,9 @@
+pub mod Tests
+pub mod SmallGroups
+pub mod SmallUse
+pub mod SharedLater
+pub mod OpenBarrel
+pub mod LeastUse
+pub mod QuietGraph
+pub mod TwoEntries
+pub mod EntryItself

@@ -1,0 +1,7 @@
+pub mod SmallGroups
+pub mod SmallUse
+pub mod SharedLater
+pub mod OpenBarrel
+pub mod ClosedUse
+pub mod TwoEntries
+pub mod EntryItself
