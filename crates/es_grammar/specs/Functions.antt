@@ -47,7 +47,7 @@ pub data BindAt (text : Bytes) (r : Rules) (c : Context) : ℕ → Bind → ℕ 
   name : {p : ℕ} (token : Token) → NameAt text Operand c p token → BindAt text r c p (bind.Name token) token.end
   pattern : {p q : ℕ} (x : Bind) → r.bind_pattern c p x q → BindAt text r c p x q
 
--- Decl: Bind (`=` Assign)?
+-- Decl: Bind (`=` Assign)?. A pattern without initialiser ends no declaration, so no semicolon is ever asked of it.
 pub data DeclAt (text : Bytes) (r : Rules) (c : Context) : ℕ → Decl → Stop → Type 0 where
   plain : {p q : ℕ} (x : Bind) → BindAt text r c p x q → DeclAt text r c p (roll-Decl (record { bind = x; initial = None })) (stop q declared_name)
   initialised : {p q : ℕ} {s : Stop} (x : Bind) (i : Initializer Assign) → BindAt text r c p x q → InitializerAt text r c q i s
@@ -202,10 +202,7 @@ abbrev pub ending_of_key : Bytes → KeyOf Assign → Ending
 ending_of_key text (key.IdName token) =
     if list_any (bytes_eq (spelled text token)) (codes "get" ∷ codes "set" ∷ []) then accessor_key
     else (if bytes_eq (spelled text token) (codes "static") then static_key else field_key)
-ending_of_key text (key.String token) = field_key
-ending_of_key text (key.Number token) = field_key
-ending_of_key text (key.Computed left x right) = field_key
-ending_of_key text (key.Private token) = field_key
+ending_of_key text _ = field_key
 
 pub data StaticAt (text : Bytes) : ℕ → Option Token → ℕ → Type 0 where
   none : {p : ℕ} → StaticAt text p None p

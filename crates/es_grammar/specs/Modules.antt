@@ -31,6 +31,7 @@ use Rattle.es_grammar.specs.Rules.{Rules}
 use Rattle.es_grammar.specs.Functions.{ClassAt, ClosedItemAt, FuncAt}
 use Rattle.es_grammar.specs.Statements.{Lex, Var, LexAt, VarAt, BeginsNoDeclaration}
 
+-- the text of a request
 abbrev pub StringAt : Bytes → ℕ → Token → Type 0
 StringAt text p token = KindAt text Operand kind.String p token
 

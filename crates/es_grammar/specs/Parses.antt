@@ -5,6 +5,10 @@ use Rattle.es_tree.specs.declared.tokens.TokenKind.TheVariants.{End}
 use Rattle.es_tree.specs.declared.tokens.Goal.TheVariants.{Operand}
 use Rattle.es_tree.specs.declared.tokens.ProgramGoal.{ProgramGoal}
 use Rattle.es_tree.specs.declared.tokens.ProgramGoal.TheVariants.{Script, Module}
+use Rattle.es_tree.specs.declared.cycle.Class.{Class}
+use Rattle.es_tree.specs.declared.cycle.Func.{Func}
+use Rattle.es_tree.specs.declared.cycle.Item.{Item}
+use Rattle.es_tree.specs.declared.cycle.Item.TheVariants as item_v
 use Rattle.es_tree.specs.declared.program.Program.{Program}
 use Rattle.es_tree.specs.declared.program.ProgramItem.{ProgramItem}
 use Rattle.es_grammar.specs.declared.TheConstants.{MAX_NEST}
@@ -12,8 +16,8 @@ use Rattle.es_grammar.specs.Contexts.{Context}
 use Rattle.es_grammar.specs.Reading.{Bytes, KindAt}
 use Rattle.es_grammar.specs.Lists.{Chain}
 use Rattle.es_grammar.specs.Rules.{Rules}
-use Rattle.es_grammar.specs.Functions.{BindPatternAt}
-use Rattle.es_grammar.specs.Expressions.{LHSAt, NewAt}
+use Rattle.es_grammar.specs.Functions.{BindPatternAt, ClassAt, ClosedItemAt, FuncAt}
+use Rattle.es_grammar.specs.Expressions.{ClosedExprAt, Expr, LHSAt, NewAt}
 use Rattle.es_grammar.specs.Targets.{TargetPatternAt}
 use Rattle.es_grammar.specs.Operators.{AssignAt, PrefixedAt}
 use Rattle.es_grammar.specs.Statements.{ItemAt, StmtAt}
@@ -65,3 +69,16 @@ pub record Parses (text : Bytes) (program : Program) : Type 0 where
   pub items : Chain (ProgramItemAt text (rules_to text MAX_NEST) program.goal) 0 program.items last
   pub end : Token
   pub is_end : KindAt text Operand End last end
+
+-- a closed expression with at most a nest
+abbrev pub ExpressionTo : Bytes → ℕ → Context → ℕ → Expr → ℕ → Type 0
+ExpressionTo text nest c = ClosedExprAt text (rules_to text nest) c
+
+-- a closed item with at most a nest
+abbrev pub ItemTo : Bytes → ℕ → Context → ℕ → Item → ℕ → Type 0
+ItemTo text nest c = ClosedItemAt text (rules_to text nest) c
+
+-- what `export default` takes that is a function or a class, its name optional, with at most a nest
+pub data DefaultTo (text : Bytes) (nest : ℕ) (c : Context) : ℕ → Item → ℕ → Type 0 where
+  func : {p q : ℕ} (x : Func) → FuncAt text (rules_to text nest) c false p x q → DefaultTo text nest c p (item_v.Func x) q
+  class : {p q : ℕ} (x : Class) → ClassAt text (rules_to text nest) c false p x q → DefaultTo text nest c p (item_v.Class x) q

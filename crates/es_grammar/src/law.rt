@@ -1,8 +1,8 @@
 ghost use Rattle.es_grammar.specs.Nests.{DeepLaw, GrowingLaw, TooDeepLaw};
 ghost use Rattle.es_grammar.specs.Tokens.{YieldLaw};
 
-/// The tokens of a text's tree are the tokens of the text: each is read where the one before it ended, and behind the last
-/// one the text ends.
+/// The tokens of a text's tree stand in the text one behind the other: each is read, at some goal, where the one before it
+/// ended, and behind the last one the text ends.
 pub fn tokens_are_the_yield()
     ensures { YieldLaw }
 {}
