@@ -1,8 +1,13 @@
 pub mod Unvisited
-pub mod Names
+pub mod PassedNames
 pub mod Returning
 pub mod Opening
 pub mod Asking
 pub mod GoingOn
 pub mod Searching
 pub mod Once
+pub mod StarEdges
+pub mod StarSearch
+pub mod Collecting
+pub mod ByteOrder
+pub mod StarReach

@@ -17,7 +17,7 @@ use Rattle.pk_types.specs.Resolving.{Pair, default_name, origin_of, IsFirst, Res
 use Rattle.export_names.specs.declared.step.Stars.{Stars}
 use Rattle.export_names.specs.declared.step.Step.TheVariants as steps
 use Rattle.export_names.specs.Searching.{Opens, IsWithin}
-use Rattle.export_names.proofs.Names.{origin_all, passed_on}
+use Rattle.export_names.proofs.PassedNames.{origin_all, passed_on}
 
 module _ (graph : Graph) (number : ℕ) (name : List ℕ) (row : Row) (at : slice_get graph.rows number ≡ Some row) where
   first_of : (before : List Pair) (other : Row) → IsFirst graph before number name other → IsFirst graph before number name row

@@ -10,7 +10,7 @@ use Rattle.export_names.specs.declared.step.Stars.{Stars}
 use Rattle.export_names.specs.declared.step.Step.{Step}
 use Rattle.export_names.specs.declared.step.Step.TheVariants as steps
 use Rattle.export_names.specs.Searching.{StarsFit, IsWithin, unvisited, names_within, step_weight, AnswerLeadsTo, Asks, Returns, Yields, IsReady, waiting_weight, GoesOn, Joins}
-use Rattle.export_names.proofs.Names.{begins}
+use Rattle.export_names.proofs.PassedNames.{begins}
 use Rattle.export_names.proofs.Returning.{first_last}
 
 -- what is left of a search

@@ -1,1 +1,3 @@
+pub mod Collected
 pub mod Searching
+pub mod Starred

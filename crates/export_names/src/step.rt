@@ -45,7 +45,7 @@ fn origin<'a>(facts: &'a Facts, name: &[u8]) -> Option<&'a Origin>
     Some(&entry.origin)
 }
 
-fn is_default(name: &[u8]) -> bool
+pub fn is_default(name: &[u8]) -> bool
     ensures { IsTrue result ↔ (name.now ≡ default_name) }
 {
     name == b"default".as_slice()
