@@ -1,5 +1,6 @@
 //! Reads a program that it doesn't own. It shows what a crate pays that takes `&Program`, and serves `yield_run`.
 #![tactic(auto)]
+
 ghost use Rattle.std.specs.Prelude.{◌≡◌, length, IfOk};
 ghost use Rattle.es_tree.specs.Yield.{program_tokens};
 

@@ -1,7 +1,5 @@
 use es_program::add;
-use es_tree::{
-    Clause, Export, Import, Item, Program, ProgramItem, Space, Stmt, Token, TokenKind,
-};
+use es_tree::{Clause, Export, Import, Item, Program, ProgramItem, Space, Stmt, Token, TokenKind};
 use std::alloc::AllocError;
 
 fn token(kind: TokenKind, start: u32, end: u32) -> Token {

@@ -1,0 +1,113 @@
+#!/usr/bin/env python3
+"""Times what exported names stand for, by the program exports_run: through chains of 1,000 to 16,000 stars, and in modules
+that export 1,000 to 10,000 names of as many others, or have as many stars.
+
+Each graph is read with many such questions, with as many that one step answers, and without any. Prints, for each shape
+and size, from the least processor times of 5 runs: what the first take above the second for each module, star or name that
+they go through, what the reading takes for each, and how much more the largest takes than the smallest. All names of a
+module are asked one by one, and each goes through the module's exports, so there the time for each grows with them.
+Run it as: python3 bench/exports.py
+"""
+import os
+import subprocess
+import sys
+import tempfile
+from pathlib import Path
+
+CHAINS = [1_000, 2_000, 4_000, 8_000, 16_000]
+BARRELS = [1_000, 2_000, 5_000, 10_000]
+RUNS = 5
+TOP = Path(__file__).resolve().parent.parent
+CRATE = TOP / "crates/exports_run"
+PROGRAM = CRATE / "out/exports_run"
+
+
+def chain(count):
+    """Each module has a star of the next, and the last has the name."""
+    rows = [f"E *{place + 1}" for place in range(count - 1)] + ["E x"]
+    return rows, ["0.x"], [f"binding 0 of {count - 1}"]
+
+
+def last_name(count):
+    """The first module exports a name of each other one, and the last of them is asked."""
+    rows = ["E " + " ".join(f"a{place:05}={place}.x" for place in range(1, count + 1))] + ["E x"] * count
+    return rows, [f"0.a{count:05}"], [f"binding 0 of {count}"]
+
+
+def stars(count):
+    """The first module has a star of each other one, and the last of them has the name."""
+    rows = ["E " + " ".join(f"*{place}" for place in range(1, count + 1))] + ["E y"] * (count - 1) + ["E x"]
+    return rows, ["0.x"], [f"binding 0 of {count}"]
+
+
+def all_names(count):
+    """The same as the second, but each of the names is asked."""
+    rows, _, _ = last_name(count)
+    places = range(1, count + 1)
+    return rows, [f"0.a{place:05}" for place in places], [f"binding 0 of {place}" for place in places]
+
+
+def build():
+    """Proves and builds the program where that has not been done."""
+    if not PROGRAM.exists():
+        command = ["rt", "run", "--", "--build-only"]
+        subprocess.run(command, cwd=CRATE, stdin=subprocess.DEVNULL, stdout=subprocess.DEVNULL, stderr=subprocess.DEVNULL)
+    if not PROGRAM.exists():
+        sys.exit("exports_run was not built")
+
+
+def once(rows, questions):
+    """Processor seconds of one run, and what it printed."""
+    with tempfile.TemporaryFile() as told, tempfile.TemporaryFile() as out:
+        told.write((" ".join(questions) + "\n" + "\n".join(rows) + "\n").encode())
+        told.seek(0)
+        child = subprocess.Popen([PROGRAM], stdin=told, stdout=out)
+        _, status, used = os.wait4(child.pid, 0)
+        out.seek(0)
+        if status:
+            sys.exit(f"exports_run ended with {status}")
+        return used.ru_utime + used.ru_stime, out.read().decode()
+
+
+def least(runs):
+    """The least seconds of each of these runs, which are taken in turn, and what each printed."""
+    seconds, printed = {}, {}
+    for _ in range(RUNS):
+        for name, (rows, questions) in runs.items():
+            spent, printed[name] = once(rows, questions)
+            seconds[name] = min(spent, seconds.get(name, spent))
+    return seconds, printed
+
+
+def measured(shape, sizes, parts):
+    """What asking takes and what reading takes, in nanoseconds for each part, at each size."""
+    runs, wanted, rounds = {}, {}, {}
+    for count in sizes:
+        rows, questions, found = shape(count)
+        rounds[count] = max(1, parts // count // len(questions))
+        wanted[count] = "".join(f"{question} is {one}\n" for question, one in zip(questions, found)) * rounds[count]
+        runs[count, "far"] = rows, questions * rounds[count]
+        runs[count, "near"] = rows, [f"{len(rows) - 1}.x"] * (len(questions) * rounds[count])
+        runs[count, "none"] = rows, []
+    seconds, printed = least(runs)
+    for count in sizes:
+        if printed[count, "far"] != wanted[count]:
+            sys.exit(f"a wrong answer in {shape.__name__} of {count}: {printed[count, 'far'][:80]}")
+    asked = [(seconds[count, "far"] - seconds[count, "near"]) / rounds[count] / count * 1e9 for count in sizes]
+    return asked, [seconds[count, "none"] / count * 1e9 for count in sizes]
+
+
+def main():
+    build()
+    for title, shape, sizes, parts, part in (
+        ("a chain of stars", chain, CHAINS, 4_000_000, "module"),
+        ("the last of a module's stars", stars, BARRELS, 4_000_000, "star"),
+        ("the last of a module's names", last_name, BARRELS, 200_000_000, "name"),
+        ("all of a module's names", all_names, BARRELS, 100_000_000, "name"),
+    ):
+        for what, each in zip(("asking", "reading"), measured(shape, sizes, parts)):
+            shown = ", ".join(f"{count}: {value:.2f}" for count, value in zip(sizes, each))
+            print(f"{title}, {what}: nanoseconds for each {part} {shown}; largest by smallest {each[-1] / each[0]:.2f}")
+
+
+main()
