@@ -1,0 +1,4 @@
+pub mod Fits
+pub mod Derivations
+pub mod Unopened
+pub mod DefaultValueDerivation

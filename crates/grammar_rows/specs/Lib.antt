@@ -1,0 +1,4 @@
+pub mod Tokens
+pub mod Trees
+pub mod Refusals
+pub mod DefaultValueTree
