@@ -1,14 +1,15 @@
 #!/usr/bin/env python3
-"""Times what exported names stand for, by the program exports_run: through chains of 1,000 to 16,000 stars, and in modules
-that export 1,000 to 10,000 names of as many others, or have as many stars.
+"""Times what exported names stand for, by the program exports_run: through chains of 1,000 to 16,000 stars, in modules that
+have as many as 10,000 stars, and in modules that export 1,000 to 10,000 names of as many others.
 
-Each graph is read with many such questions, with as many that one step answers, and without any. Prints, for each shape
-and size, from the least processor times of 5 runs: what the first take above the second for each module, star or name that
-they go through, what the reading takes for each, and how much more the largest takes than the smallest. All names of a
-module are asked one by one, and each goes through the module's exports, so there the time for each grows with them.
+Each graph is read with many questions, with as many that one step answers, and without any. Prints, for each shape and size,
+from the least processor times of 5 runs: for stars, what the first take above the second for each module or star that they go
+through; for names, what the first take above no questions for each of them; what the reading takes for each module; and how
+much more the largest takes than the smallest.
 Run it as: python3 bench/exports.py
 """
 import os
+import random
 import subprocess
 import sys
 import tempfile
@@ -41,9 +42,10 @@ def stars(count):
 
 
 def all_names(count):
-    """The same as the second, but each of the names is asked."""
+    """The same as the second, but each of the names is asked, again and again in an order without a pattern."""
     rows, _, _ = last_name(count)
-    places = range(1, count + 1)
+    places = list(range(1, count + 1))
+    random.Random(count).shuffle(places)
     return rows, [f"0.a{place:05}" for place in places], [f"binding 0 of {place}" for place in places]
 
 
@@ -79,35 +81,39 @@ def least(runs):
     return seconds, printed
 
 
-def measured(shape, sizes, parts):
+def measured(shape, sizes, asked, goes_through):
     """What asking takes and what reading takes, in nanoseconds for each part, at each size."""
-    runs, wanted, rounds = {}, {}, {}
+    runs, wanted, parts = {}, {}, {}
     for count in sizes:
         rows, questions, found = shape(count)
-        rounds[count] = max(1, parts // count // len(questions))
-        wanted[count] = "".join(f"{question} is {one}\n" for question, one in zip(questions, found)) * rounds[count]
-        runs[count, "far"] = rows, questions * rounds[count]
-        runs[count, "near"] = rows, [f"{len(rows) - 1}.x"] * (len(questions) * rounds[count])
+        through = count if goes_through else 1
+        rounds = max(1, asked // through // len(questions))
+        parts[count] = rounds * len(questions) * through
+        wanted[count] = "".join(f"{question} is {one}\n" for question, one in zip(questions, found)) * rounds
+        runs[count, "far"] = rows, questions * rounds
+        runs[count, "near"] = rows, [f"{len(rows) - 1}.x"] * (len(questions) * rounds)
         runs[count, "none"] = rows, []
     seconds, printed = least(runs)
     for count in sizes:
         if printed[count, "far"] != wanted[count]:
             sys.exit(f"a wrong answer in {shape.__name__} of {count}: {printed[count, 'far'][:80]}")
-    asked = [(seconds[count, "far"] - seconds[count, "near"]) / rounds[count] / count * 1e9 for count in sizes]
-    return asked, [seconds[count, "none"] / count * 1e9 for count in sizes]
+    base = "near" if goes_through else "none"
+    asking = [(seconds[count, "far"] - seconds[count, base]) / parts[count] * 1e9 for count in sizes]
+    return asking, [seconds[count, "none"] / count * 1e9 for count in sizes]
 
 
 def main():
     build()
-    for title, shape, sizes, parts, part in (
+    for title, shape, sizes, asked, part in (
         ("a chain of stars", chain, CHAINS, 4_000_000, "module"),
         ("the last of a module's stars", stars, BARRELS, 4_000_000, "star"),
-        ("the last of a module's names", last_name, BARRELS, 200_000_000, "name"),
-        ("all of a module's names", all_names, BARRELS, 100_000_000, "name"),
+        ("the last of a module's names", last_name, BARRELS, 500_000, None),
+        ("all of a module's names", all_names, BARRELS, 500_000, None),
     ):
-        for what, each in zip(("asking", "reading"), measured(shape, sizes, parts)):
-            shown = ", ".join(f"{count}: {value:.2f}" for count, value in zip(sizes, each))
-            print(f"{title}, {what}: nanoseconds for each {part} {shown}; largest by smallest {each[-1] / each[0]:.2f}")
+        asking, reading = measured(shape, sizes, asked, part is not None)
+        for what, each, values in (("asking", part or "question", asking), ("reading", "module", reading)):
+            shown = ", ".join(f"{count}: {value:.1f}" for count, value in zip(sizes, values))
+            print(f"{title}, {what}: nanoseconds for each {each} {shown}; largest by smallest {values[-1] / values[0]:.2f}")
 
 
 main()

@@ -3,6 +3,7 @@ use Rattle.std.proofs.Common.{◌≡◌, ◌≢◌, ℕ, zero, suc, ◌<◌, ◌
 use Rattle.std.specs.List.{Contains, list_any}
 use Rattle.std.specs.Str.{bytes_eq}
 use Rattle.std.specs.Cmp.Lexicographic.{bytes_decides}
+use Rattle.std.proofs.lemmas.List.{map-append}
 use Rattle.std.proofs.lemmas.Option.{same_Some}
 use Rattle.std.proofs.lemmas.Bool.{true≢false}
 use Rattle.std.proofs.lemmas.List.Elements.{Contains-append_cases, Contains-push_cases}
@@ -13,11 +14,12 @@ use Rattle.pk_types.specs.declared.facts.Kind.{Kind}
 use Rattle.pk_types.specs.declared.facts.Kind.TheVariants.{Es}
 use Rattle.pk_types.specs.declared.graph.Graph.{Graph}
 use Rattle.pk_types.specs.declared.graph.Row.{Row}
+use Rattle.pk_types.specs.declared.text.Key.{Key}
 use Rattle.pk_types.specs.declared.found.Found.TheVariants.{Foreign, Nothing}
 use Rattle.pk_types.specs.Resolving.{Pair, kind_at, IsFirst, ResolvesTo, foreign, circular}
 use Rattle.export_names.specs.declared.step.Step.{Step}
 use Rattle.export_names.specs.declared.step.Step.TheVariants as steps
-use Rattle.export_names.specs.Searching.{same_pair, unvisited, names_within, StepLeadsTo, Opens, Asks}
+use Rattle.export_names.specs.Searching.{same_pair, pairs, unvisited, names_within, StepLeadsTo, Opens, Asks}
 use Rattle.export_names.proofs.Unvisited.{fewer}
 
 or_true : (b : Bool) → (b || true) ≡ true
@@ -57,6 +59,22 @@ any_from (first ∷ pairs) pair there = ⊎_elim
     (λ one. ap (λ b. b || list_any (same_pair pair) pairs) (subst (λ p. same_pair pair p ≡ true) (sym (only first pair one)) (same_self pair)))
     (λ behind. ap (λ b. same_pair pair first || b) (any_from pairs pair behind) ∙ or_true (same_pair pair first))
     (Contains-append_cases (first ∷ []) pairs pair there)
+
+-- ---- pairs in a set
+
+pub any_pair : (key : ℕ × Key) (keys : List (ℕ × Key)) → list_any (λ (other : ℕ × Key). nat_eq key.0 other.0 && bytes_eq key.1.0.now other.1.0.now) keys ≡ list_any (same_pair (key.0, key.1.0.now)) (pairs keys)
+any_pair key [] = refl
+any_pair key (other ∷ keys) = ap (λ b. (nat_eq key.0 other.0 && bytes_eq key.1.0.now other.1.0.now) || b) (any_pair key keys)
+
+pub pairs_inserted : (keys : List (ℕ × Key)) (key : ℕ × Key) → pairs (insert_key (λ (key other : ℕ × Key). nat_eq key.0 other.0 && bytes_eq key.1.0.now other.1.0.now) keys key) ≡ insert_key same_pair (pairs keys) (key.0, key.1.0.now)
+pairs_inserted keys key = by (list_any (λ (other : ℕ × Key). nat_eq key.0 other.0 && bytes_eq key.1.0.now other.1.0.now) keys) refl
+  where
+    by : (b : Bool) → list_any (λ (other : ℕ × Key). nat_eq key.0 other.0 && bytes_eq key.1.0.now other.1.0.now) keys ≡ b
+        → pairs (insert_key (λ (key other : ℕ × Key). nat_eq key.0 other.0 && bytes_eq key.1.0.now other.1.0.now) keys key) ≡ insert_key same_pair (pairs keys) (key.0, key.1.0.now)
+    by true e = ap (λ b. pairs (cond b keys (keys ++ key ∷ []))) e ∙ sym (ap (λ b. cond b (pairs keys) (pairs keys ++ (key.0, key.1.0.now) ∷ [])) (sym (any_pair key keys) ∙ e))
+    by false e =
+        ap (λ b. pairs (cond b keys (keys ++ key ∷ []))) e ∙ map-append (λ (key : ℕ × Key). (key.0, key.1.0.now)) keys (key ∷ [])
+        ∙ sym (ap (λ b. cond b (pairs keys) (pairs keys ++ (key.0, key.1.0.now) ∷ [])) (sym (any_pair key keys) ∙ e))
 
 module _ (graph : Graph) (before : List Pair) (number : ℕ) (name given : List ℕ) (same : given ≡ name) where
   pub asks_foreign : (kind : Kind) → kind_at graph number ≡ Some kind → kind ≢ Es → Asks graph before number name before (steps.Answer (Foreign number given))

@@ -11,3 +11,4 @@ pub mod StarSearch
 pub mod Collecting
 pub mod ByteOrder
 pub mod StarReach
+pub mod Indexing

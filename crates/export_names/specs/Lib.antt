@@ -1,3 +1,4 @@
 pub mod Collected
+pub mod Indexed
 pub mod Searching
 pub mod Starred

@@ -1,11 +1,12 @@
 -- The steps of a search for what an exported name stands for. Only private clauses cite this.
-use Rattle.std.specs.Prelude.{◌≡◌, ◌≢◌, ◌<◌, ◌+◌, ◌*◌, ◌^◌, ◌⊎◌, ℕ, zero, suc, List, [], ◌∷◌, ◌++◌, Bool, true, ◌&&◌, nat_eq, cond, length, flat_map, sum_by}
+use Rattle.std.specs.Prelude.{◌≡◌, ◌≢◌, ◌<◌, ◌+◌, ◌*◌, ◌^◌, ◌⊎◌, ℕ, zero, suc, List, [], ◌∷◌, ◌++◌, Bool, true, ◌&&◌, nat_eq, cond, length, map, flat_map, sum_by}
 use Rattle.std.specs.List.{All, list_any}
 use Rattle.std.specs.Str.{bytes_eq}
 use Rattle.pk_types.specs.declared.facts.Origin.{Origin}
 use Rattle.pk_types.specs.declared.facts.Origin.TheVariants.{Own, Other, Space}
 use Rattle.pk_types.specs.declared.graph.Graph.{Graph}
 use Rattle.pk_types.specs.declared.graph.Row.{Row}
+use Rattle.pk_types.specs.declared.text.Key.{Key}
 use Rattle.pk_types.specs.declared.found.Found.{Found}
 use Rattle.pk_types.specs.declared.found.Found.TheVariants.{Ambiguous}
 use Rattle.pk_types.specs.Joined.{joined}
@@ -35,6 +36,10 @@ IsWithin graph first name = list_any (bytes_eq name) (names_within graph first) 
 
 abbrev pub same_pair : Pair → Pair → Bool
 same_pair pair other = nat_eq pair.0 other.0 && bytes_eq pair.1 other.1
+
+-- the pairs that stand in a set of borrowed names
+abbrev pub pairs : List (ℕ × Key) → List Pair
+pairs keys = map (λ key. (key.0, key.1.0.now)) keys
 
 abbrev pub left_one : List Pair → ℕ → List ℕ → ℕ
 left_one before number name = cond (list_any (same_pair (number, name)) before) 0 1

@@ -5,6 +5,7 @@ mod exported;
 mod found;
 mod law;
 mod resolve;
+mod resolver;
 mod starred;
 mod step;
 
@@ -12,3 +13,4 @@ pub use exported::names;
 pub use law::resolves_to_one;
 pub use pk_types::Found;
 pub use resolve::resolve_export;
+pub use resolver::Resolver;

@@ -1,14 +1,14 @@
 // The steps of a search for what an exported name stands for.
 ghost use Rattle.std.specs.Prelude.{◌≡◌, ◌≢◌, ◌↔◌, false, Some, IsTrue, ℕ, List, ◌<◌, ◌+◌, ◌++◌, ◌∷◌, [], length, slice_get, IfOk, OnOk, option_copied};
-ghost use Rattle.pk_types.specs.Fitting.{Fits};
 ghost use Rattle.pk_types.specs.Resolving.{default_name, kind_at, origin_of};
 ghost use Rattle.pk_types.specs.declared.facts.Kind.{Kind};
 ghost use Rattle.pk_types.specs.declared.facts.Kind.TheVariants.{Es};
-ghost use Rattle.export_names.specs.Searching.{Opens, Asks, GoesOn, Joins, StarsFit};
+ghost use Rattle.export_names.specs.Searching.{Opens, Asks, GoesOn, Joins, StarsFit, pairs};
 
 use crate::found::join;
+use crate::resolver::Resolver;
 use indexmap::IndexSet;
-use pk_types::{Facts, Found, Graph, Kind, Name, Origin, Text};
+use pk_types::{Found, Key, Kind, Origin, Text};
 use std::alloc::{AllocError, Global};
 
 // The stars of a module that are yet to be asked for a name, with what those before them lead to.
@@ -33,18 +33,6 @@ pub enum Step<'a> {
     Answer(Found),
 }
 
-// Where the export of this name comes from, if the module has one.
-fn origin<'a>(facts: &'a Facts, name: &[u8]) -> Option<&'a Origin>
-    ensures { option_copied result ≡ origin_of facts.now name.now }
-{
-    let entry = facts
-        .exports
-        .as_slice()
-        .iter()
-        .find(|entry| entry.name.as_slice() == name)?;
-    Some(&entry.origin)
-}
-
 pub fn is_default(name: &[u8]) -> bool
     ensures { IsTrue result ↔ (name.now ≡ default_name) }
 {
@@ -52,14 +40,13 @@ pub fn is_default(name: &[u8]) -> bool
 }
 
 // Asks a module of ECMAScript for a name for the first time.
-fn open<'a>(graph: &'a Graph, module: u32, name: &'a [u8]) -> Step<'a>
-    requires fits { Fits graph.now }
-    requires module { «module» < length graph.now.rows }
-    ensures { Opens graph.now «module» name.now result }
+fn open<'a, 'g: 'a>(resolver: &Resolver<'g>, module: u32, name: &'a [u8]) -> Step<'a>
+    requires { «module» < length resolver.now.rows }
+    ensures { Opens resolver.now «module» name.now result }
 {
-    let row = &graph.rows.as_slice()[module as usize];
+    let row = resolver.row(module);
     let targets = row.targets.as_slice();
-    match origin(&row.facts, name) {
+    match resolver.origin(module, name) {
         Some(Origin::Own(binding)) => Step::Answer(Found::Binding(module, *binding)),
         Some(Origin::Space(request)) => {
             Step::Answer(Found::Namespace(targets[*request as usize]))
@@ -78,33 +65,32 @@ fn open<'a>(graph: &'a Graph, module: u32, name: &'a [u8]) -> Step<'a>
 }
 
 // Whether a module is one of ECMAScript.
-fn is_es(graph: &Graph, module: u32) -> bool
-    requires { «module» < length graph.now.rows }
-    ensures es { IsTrue result → kind_at graph.now «module» ≡ Some Es }
-    ensures other { result ≡ false → (kind : Kind) × (kind_at graph.now «module» ≡ Some kind) × (kind ≢ Es) }
+fn is_es(resolver: &Resolver<'_>, module: u32) -> bool
+    requires { «module» < length resolver.now.rows }
+    ensures es { IsTrue result → kind_at resolver.now «module» ≡ Some Es }
+    ensures other { result ≡ false → (kind : Kind) × (kind_at resolver.now «module» ≡ Some kind) × (kind ≢ Es) }
 {
-    graph.rows.as_slice()[module as usize].facts.kind == Kind::Es
+    resolver.row(module).facts.kind == Kind::Es
 }
 
 // Asks a module for a name. Visited are the pairs of a module of ECMAScript and a name that were gone through.
-pub fn ask<'a>(
+pub fn ask<'a, 'g: 'a>(
     alloc: Global,
-    graph: &'a Graph,
-    visited: &mut IndexSet<(u32, Name)>,
+    resolver: &Resolver<'g>,
+    visited: &mut IndexSet<(u32, Key<'a>)>,
     module: u32,
     name: &'a [u8],
 ) -> Result<Step<'a>, AllocError>
-    requires fits { Fits graph.now }
-    requires module { «module» < length graph.now.rows }
-    ensures { IfOk result (Asks graph.now visited.old.keys «module» name.now visited.new.keys) }
+    requires { «module» < length resolver.now.rows }
+    ensures { IfOk result (Asks resolver.now (pairs visited.old.keys) «module» name.now (pairs visited.new.keys)) }
 {
-    if !is_es(graph, module) {
+    if !is_es(resolver, module) {
         let name = Text::from_slice(alloc, name)?;
         return Ok(Step::Answer(Found::Foreign(module, name)));
     }
-    let is_first = visited.insert((module, Text::from_slice(alloc, name)?))?;
+    let is_first = visited.insert((module, Key(name)))?;
     if is_first {
-        Ok(open(graph, module, name))
+        Ok(open(resolver, module, name))
     } else {
         Ok(Step::Answer(Found::Nothing))
     }
@@ -112,13 +98,12 @@ pub fn ask<'a>(
 
 // Asks the next star, if one is left. What waits for its answer is kept.
 pub fn ask_next<'a>(
-    graph: &Graph,
+    resolver: &Resolver<'_>,
     waiting: &mut Vec<Stars<'a>>,
     stars: Stars<'a>,
 ) -> Result<Step<'a>, AllocError>
-    requires fits { Fits graph.now }
-    requires stars { StarsFit graph.now stars }
-    ensures { IfOk result (GoesOn graph.now stars.entry waiting.old.items waiting.new.items) }
+    requires { StarsFit resolver.now stars }
+    ensures { IfOk result (GoesOn resolver.now stars.entry waiting.old.items waiting.new.items) }
 {
     let Some((&star, rest)) = stars.stars.split_first() else {
         return Ok(Step::Answer(stars.so_far));
@@ -130,7 +115,7 @@ pub fn ask_next<'a>(
         stars: rest,
         so_far: stars.so_far,
     };
-    if !is_es(graph, target) {
+    if !is_es(resolver, target) {
         return Ok(Step::Stars(left));
     }
     let name = left.name;

@@ -1,10 +1,10 @@
 // Questions about a graph, and their answers.
-ghost use Rattle.std.specs.Prelude.{◌<◌, length};
+ghost use Rattle.std.specs.Prelude.{◌≡◌, ◌<◌, length};
 ghost use Rattle.pk_types.specs.Fitting.{Fits};
 
 use crate::building::build;
 use crate::fault::Fault;
-use export_names::{names, resolve_export};
+use export_names::{Resolver, names, resolve_export};
 use pk_types::{Found, Graph, Text};
 use std::alloc::{AllocError, Global};
 
@@ -44,28 +44,35 @@ fn put_names(alloc: Global, out: &mut Vec<u8>, graph: &Graph, module: u32) -> Re
     Ok(())
 }
 
-// What a name of a module stands for, as `0.x` asks, or which names it exports.
+// What a name of a module stands for, as `0.x` asks, or `0:x` without a resolver, or which names the module exports.
 fn put_answer(
     alloc: Global,
     out: &mut Vec<u8>,
     graph: &Graph,
+    resolver: &Resolver<'_>,
     question: &str,
 ) -> Result<(), AllocError>
-    requires { Fits graph.now }
+    requires fits { Fits graph.now }
+    requires same { resolver.now ≡ graph.now }
 {
-    let (module, name) = match question.split_once('.') {
-        Some((module, name)) => (module, Some(name)),
-        None => (question, None),
+    let (is_alone, split) = match question.split_once('.') {
+        Some(split) => (false, Some(split)),
+        None => (true, question.split_once(':')),
     };
+    let (module, name) = split.unwrap_or((question, ""));
     let module = module.parse::<u32>().unwrap_or(u32::MAX);
     if module as usize >= graph.rows.len() {
         return out.extend_from_slice(b"no module");
     }
-    let Some(name) = name else {
+    if split.is_none() {
         return put_names(alloc, out, graph, module);
-    };
+    }
     let name = Text::from_slice(alloc, name.as_bytes())?;
-    let found = resolve_export(alloc, graph, module, &name)?;
+    let found = if is_alone {
+        resolve_export(alloc, graph, module, &name)?
+    } else {
+        resolver.resolve(alloc, module, &name)?
+    };
     put_found(alloc, out, &found)
 }
 
@@ -78,10 +85,11 @@ pub fn put_answers(alloc: Global, out: &mut Vec<u8>, block: &str) -> Result<(), 
         Err(Fault::TooMany) => return out.extend_from_slice(b"too many\n"),
         Err(Fault::NoMemory) => return out.extend_from_slice(b"no memory\n"),
     };
+    let resolver = Resolver::new(alloc, &graph)?;
     for question in questions.split_whitespace() {
         out.extend_from_slice(question.as_bytes())?;
         out.extend_from_slice(b" is ")?;
-        put_answer(alloc, out, &graph, question)?;
+        put_answer(alloc, out, &graph, &resolver, question)?;
         out.push(b'\n')?;
     }
     Ok(())
