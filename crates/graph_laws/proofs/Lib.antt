@@ -1,4 +1,8 @@
 pub mod Tests
+pub mod SameThing
+pub mod ClosedPairs
+pub mod ClosedResolve
+pub mod FoundWays
 pub mod SmallGroups
 pub mod SmallUse
 pub mod SharedLater
@@ -7,3 +11,11 @@ pub mod LeastUse
 pub mod QuietGraph
 pub mod TwoEntries
 pub mod EntryItself
+pub mod StarBarrel
+pub mod StarEdges
+pub mod OneUse
+pub mod RequiredModule
+pub mod BarrelUse
+pub mod BarrelEdges
+pub mod FittingTests
+pub mod FittingGraphs

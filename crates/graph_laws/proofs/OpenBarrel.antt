@@ -10,20 +10,11 @@ use Rattle.pk_types.specs.Resolving.{origin_of, ResolvesTo}
 use Rattle.pk_types.specs.Requests.{NamesAtSite}
 use Rattle.pk_types.specs.Reexports.{FindsOne, PassesOn}
 use Rattle.pk_types.specs.StopSearch.{StopsAt, HasStops}
-use Rattle.pk_types.specs.ExportedNames.{AreInByteOrder}
 use Rattle.pk_types.specs.ActiveEdges.{GoesThrough, SpaceGoesThrough, AreNamesThrough, GivesEdges, HasEdges}
 use Rattle.pk_types.proofs.Parts.{Contains-one, one_only, none_within}
 use Rattle.graph_laws.specs.SmallUse.{v2, user, owner}
+use Rattle.graph_laws.proofs.SmallUse.{other_place, one_in_order, none_in_order}
 use Rattle.graph_laws.specs.OpenBarrel.{open_barrel, open_graph, plain_graph}
-
-one_in_order : (name : List ℕ) → AreInByteOrder (name ∷ [])
-one_in_order name i j d h l = absurd (omega (arith, h, l))
-
-none_in_order : AreInByteOrder []
-none_in_order i j d h l = absurd (omega (arith, h, l))
-
-other_place : (request : ℕ) (name : List ℕ) → Some (Other 1 v2) ≡ Some (Other request name) → (request ≡ 1) × (name ≡ v2)
-other_place request name e = grind arith
 
 names_none : (request : ℕ) (name : List ℕ) → NamesAtSite open_barrel request name → ⊥
 names_none _ _ (NamesAtSite.reads place request name c a) = none_within (site.Read (Imported place)) c

@@ -6,6 +6,7 @@ use Rattle.std.proofs.lemmas.List.Elements.{All-from_recursion, All-contains}
 use Rattle.pk_types.specs.declared.plan.Groups.{Groups}
 use Rattle.pk_types.specs.Availability.{Holds, Leads, IsWalk, IsAvailable}
 use Rattle.pk_types.proofs.Availabilities.{walk_begins, walk_goes_on, by_all_parents}
+use Rattle.graph_laws.specs.RequiredModule.{require_groups}
 use Rattle.graph_laws.specs.SmallGroups.{BringsExactly, one_parent, both_parents, entry_itself, two_entries}
 use Rattle.graph_laws.proofs.Tests.{has, passes, tested, holds, leads, to_holds, to_leads, of_leads, none_holds}
 
@@ -127,3 +128,17 @@ two_entries_second = places two_entries 1 (1 ∷ []) (1 ∷ []) refl (refl, tt) 
 pub two_entries_later : BringsExactly two_entries 2 (2 ∷ [])
 two_entries_later = places two_entries 2 (2 ∷ []) (2 ∷ []) refl (refl, tt)
     (is_brought two_entries 2 (2 ∷ []) (0 ∷ []) 2 (step two_entries 2 (lit< tt) refl) refl refl, tt)
+
+-- a group of an entry that has a required module, and one that it leads to
+pub required_entry : BringsExactly require_groups 0 (0 ∷ 1 ∷ 3 ∷ [])
+required_entry = places require_groups 0 (0 ∷ 1 ∷ 3 ∷ []) (0 ∷ 1 ∷ 3 ∷ []) refl (refl, (refl, (refl, tt))) (
+  is_brought require_groups 0 (0 ∷ 1 ∷ 3 ∷ []) [] 0 (first require_groups (lit< tt)) refl refl,
+  (
+    is_brought require_groups 0 (0 ∷ 1 ∷ 3 ∷ []) [] 1 (first require_groups (lit< tt)) refl refl,
+    (is_brought require_groups 0 (0 ∷ 1 ∷ 3 ∷ []) [] 3 (first require_groups (lit< tt)) refl refl, tt),
+  ),
+)
+
+pub required_later : BringsExactly require_groups 1 (2 ∷ [])
+required_later = places require_groups 1 (2 ∷ []) (2 ∷ []) refl (refl, tt)
+    (is_brought require_groups 1 (2 ∷ []) (0 ∷ []) 2 (step require_groups 1 (lit< tt) refl) refl refl, tt)

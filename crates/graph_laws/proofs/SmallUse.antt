@@ -70,7 +70,7 @@ asked place request name e a =
     (sym (ap (slice_get user.facts.imports) e) ∙ a.1) in
     (sym a.2 ∙ sym (ap (λ entry. entry.request) f), same_Some name v2 (sym a.3 ∙ sym (ap (λ entry. entry.name) f)))
 
-at_user : (request : ℕ) (name : List ℕ) → NamesAtSite user request name → (request ≡ 0) × (name ≡ v2)
+pub at_user : (request : ℕ) (name : List ℕ) → NamesAtSite user request name → (request ≡ 0) × (name ≡ v2)
 at_user _ _ (NamesAtSite.reads place request name c a) = asked place request name (read_place place (one_only (site.Read (Imported 0)) (site.Read (Imported place)) c)) a
 at_user _ _ (NamesAtSite.writes place request name c a) = let e = one_only (site.Read (Imported 0)) (site.Write (Imported place)) c in absurd (grind arith)
 at_user _ _ (NamesAtSite.member request name c) = let e = one_only (site.Read (Imported 0)) (site.Member request name) c in absurd (grind arith)
@@ -90,7 +90,7 @@ Named number name = ((number ≡ 1) ⊎ (number ≡ 3)) × (name ≡ v2)
 abbrev Through : ℕ → ℕ → List ℕ → Type 0
 Through number request name = (((number ≡ 0) × (request ≡ 0)) ⊎ ((number ≡ 1) × (request ≡ 1))) × (name ≡ v2)
 
-other_place : (request : ℕ) (name : List ℕ) → Some (Other 1 v2) ≡ Some (Other request name) → (request ≡ 1) × (name ≡ v2)
+pub other_place : (request : ℕ) (name : List ℕ) → Some (Other 1 v2) ≡ Some (Other request name) → (request ≡ 1) × (name ≡ v2)
 other_place request name e = grind arith
 
 passes_on : (number : ℕ) (row : Row) → Which number row → (exported : List ℕ) → Named number exported → (request : ℕ) (name : List ℕ)
@@ -250,10 +250,10 @@ barrel_way = IsStopOf.by_name 1 v2 barrel 1 3 v2 3 (record { at = refl; found = 
 pub owner_reached : IsReached barrel_graph 3
 owner_reached = IsReached.stopped 0 0 1 3 v2 user_reached (user, refl, Contains-one 0, refl) user_asks barrel_way
 
-one_in_order : (name : List ℕ) → AreInByteOrder (name ∷ [])
+pub one_in_order : (name : List ℕ) → AreInByteOrder (name ∷ [])
 one_in_order name i j d h l = absurd (omega (arith, h, l))
 
-none_in_order : AreInByteOrder []
+pub none_in_order : AreInByteOrder []
 none_in_order i j d h l = absurd (omega (arith, h, l))
 
 -- the names of a module in the record are exactly the used ones

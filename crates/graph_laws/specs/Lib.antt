@@ -5,3 +5,6 @@ pub mod OpenBarrel
 pub mod ClosedUse
 pub mod TwoEntries
 pub mod EntryItself
+pub mod Owners
+pub mod StarBarrel
+pub mod RequiredModule

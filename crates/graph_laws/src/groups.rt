@@ -9,10 +9,11 @@ ghost use Rattle.pk_types.specs.ActiveEdges.{IsActive};
 ghost use Rattle.pk_types.specs.ChunkGroups.{IsGroups};
 ghost use Rattle.pk_types.specs.Requests.{CallsRequire};
 ghost use Rattle.pk_types.specs.Places.{IsShort};
-ghost use Rattle.pk_types.specs.Availability.{Holds, Leads, IsWalk, IsAvailable, IsPlaced, GroupsFit, HasModulesBelow};
+ghost use Rattle.pk_types.specs.Availability.{Holds, Leads, IsWalk, IsAvailable, IsPlaced, ArePlaced, GroupsFit, HasModulesBelow};
 ghost use Rattle.graph_laws.specs.SharedLater.{shared_graph, shared_used, shared_active};
 ghost use Rattle.graph_laws.specs.TwoEntries.{entries_graph, entries_used, entries_active};
 ghost use Rattle.graph_laws.specs.EntryItself.{itself_graph, itself_used, itself_active};
+ghost use Rattle.graph_laws.specs.RequiredModule.{require_graph, require_used, require_active, require_groups};
 ghost use Rattle.graph_laws.specs.SmallGroups.{BringsExactly, one_parent, both_parents, entry_itself, two_entries};
 
 /// Nothing is available in the group of an entry, so that it brings all of its modules.
@@ -87,6 +88,11 @@ pub fn groups_are_determined()
         → groups ≡ others }
 {}
 
+/// What groups bring stands in one list of rows alone.
+pub fn what_groups_bring_is_determined()
+    ensures { (groups : Groups) (placed others : List (List ℕ)) → ArePlaced groups placed → ArePlaced groups others → placed ≡ others }
+{}
+
 /// The modules of the groups of a graph are among its rows.
 pub fn groups_have_rows()
     ensures { (graph : Graph) (used : Used) (active : Active) (groups : Groups) → IsActive graph used active → IsGroups graph active groups
@@ -129,4 +135,15 @@ pub fn shared_by_two_entries()
     ensures first { BringsExactly two_entries 0 (0 ∷ []) }
     ensures second { BringsExactly two_entries 1 (1 ∷ []) }
     ensures later { BringsExactly two_entries 2 (2 ∷ []) }
+{}
+
+/// A module of CommonJS requires one of ECMAScript, and imports another one when it runs. All names of both are used, and
+/// no namespace is used as a value. What is required is no edge, but stands in the group of the entry, with what it evaluates
+/// before itself: that is a stop, since it is none of ECMAScript.
+pub fn required_module()
+    ensures used { HasUse require_graph require_used }
+    ensures edges { IsActive require_graph require_used require_active }
+    ensures groups { IsGroups require_graph require_active require_groups }
+    ensures entry { BringsExactly require_groups 0 (0 ∷ 1 ∷ 3 ∷ []) }
+    ensures later { BringsExactly require_groups 1 (2 ∷ []) }
 {}
