@@ -1,9 +1,7 @@
 mod ByPath
 mod Builds
-pub mod FirstSights
 mod LeastAddresses
-pub mod OneNumbering
 mod Order
 mod Rows
-mod Shortlex
+pub mod Shortlex
 pub mod Sights

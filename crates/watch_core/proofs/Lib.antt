@@ -3,12 +3,9 @@ mod FactsRequests
 mod FilePaths
 mod Finding
 mod Looking
-mod OneAnswer
-mod OneModules
-mod OneWalks
 mod Outwards
 mod Seeing
 mod Visiting
 mod WalkEnds
-mod WalkPaths
+pub mod WalkPaths
 mod WalkSteps

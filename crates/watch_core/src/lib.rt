@@ -4,7 +4,6 @@
 mod facts;
 mod faults;
 mod find;
-mod law;
 mod manifest;
 mod module;
 mod places;
@@ -14,5 +13,4 @@ mod walk;
 
 pub use faults::{BuildFault, What};
 pub use find::find_modules;
-pub use law::finds_one_answer;
 pub use walk::Found;

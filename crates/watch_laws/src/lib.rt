@@ -1,4 +1,6 @@
-// A law of the definitions.
+//! A law of the definitions that say what is found in a tree.
+#![tactic(auto)]
+
 ghost use Rattle.std.specs.Prelude.{◌≡◌, ℕ, List, Result};
 ghost use Rattle.pk_base.specs.Calls.{Held as Tree};
 ghost use Rattle.watch_core.specs.Builds.{Finds};

@@ -10,15 +10,12 @@ use Rattle.std.proofs.lemmas.Map.Made.{length-le_from_is_member}
 use Rattle.std.proofs.lemmas.Option.{same_Some, none-some, slice_get_within, slice_get-get_or, get_or_from_slice_get}
 use Rattle.std.proofs.lemmas.Slice.Zip.{AllZip-long}
 use Rattle.emit_body.specs.declared.body.Body.{Body}
-use Rattle.module_graph.proofs.OneNumbering.{one_place}
 use Rattle.module_graph.proofs.Sights.{at_number, distinct}
 use Rattle.module_graph.specs.Building.{Building, so_far}
 use Rattle.module_graph.specs.Known.{with_paths, number_in}
 use Rattle.pk_base.specs.Calls.{Held}
 use Rattle.pk_types.specs.declared.graph.Graph.{Graph}
 use Rattle.pk_types.specs.declared.graph.Row.{Row}
-use Rattle.watch_core.proofs.OneModules.{one_fault, no_fault}
-use Rattle.watch_core.proofs.OneWalks.{LeadsIn, from_places, bytes_up_to, numbered, both_at, label_at, known_agree, rows_agree, knows_no_more}
 use Rattle.watch_core.proofs.WalkPaths.{all_with}
 use Rattle.watch_core.specs.Followed.{IsKnown, IsFollowed, AreFollowed, source_bytes, rows_asks}
 use Rattle.watch_core.specs.Modules.{IsModule, HasFault}
@@ -29,6 +26,9 @@ use Rattle.watch_core.specs.Trees.{seen, is_there}
 use Rattle.watch_core.specs.Builds.{pack_json, index_js, HasModules, HasFirstFault, settings, entry, of_module, asks_of, Finds}
 use Rattle.watch_core.specs.declared.walk.Found.{Found}
 use Rattle.watch_core.specs.declared.faults.BuildFault.{BuildFault}
+use Rattle.watch_laws.proofs.OneNumbering.{one_place}
+use Rattle.watch_laws.proofs.OneModules.{one_fault, no_fault}
+use Rattle.watch_laws.proofs.OneWalks.{LeadsIn, from_places, bytes_up_to, numbered, both_at, label_at, known_agree, rows_agree, knows_no_more}
 
 member_at : (known : List (List ℕ)) (n : ℕ) (path : List ℕ) → slice_get known n ≡ Some path → IsKnown known path
 member_at [] n path e = absurd (none-some path e)

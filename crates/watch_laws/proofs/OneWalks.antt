@@ -7,16 +7,16 @@ use Rattle.std.proofs.lemmas.List.Elements.{All-head, All-tail}
 use Rattle.std.proofs.lemmas.List.Sums.{sum_by-cons}
 use Rattle.std.proofs.lemmas.Option.{same_Some, none-some, slice_get-map, slice_get_within, get_or_from_slice_get}
 use Rattle.emit_body.specs.declared.body.Body.{Body}
-use Rattle.module_graph.proofs.OneNumbering.{IsNumbered, IsNumberedAt, agree, same_number, no_more}
 use Rattle.module_graph.specs.Building.{Building, so_far, leaf_of}
 use Rattle.module_graph.specs.Known.{number_in, numbers_in}
 use Rattle.pk_base.specs.Calls.{Held}
 use Rattle.pk_types.specs.declared.facts.Facts.{Facts}
 use Rattle.pk_types.specs.declared.graph.Row.{Row}
 use Rattle.bare_modules.specs.declared.read.ModuleText.{ModuleText}
-use Rattle.watch_core.proofs.OneModules.{one_module}
 use Rattle.watch_core.specs.Followed.{IsKnown, AreKnown, IsFollowed, AreFollowed, source_bytes}
 use Rattle.watch_core.specs.Modules.{IsModule, facts_of}
+use Rattle.watch_laws.proofs.OneNumbering.{IsNumbered, IsNumberedAt, agree, same_number, no_more}
+use Rattle.watch_laws.proofs.OneModules.{one_module}
 
 -- ---- lists, place by place
 

@@ -9,8 +9,8 @@ use Rattle.pk_types.specs.declared.graph.Graph.{Graph}
 use Rattle.module_graph.specs.Addresses.{target_of}
 use Rattle.module_graph.specs.Known.{number_in}
 use Rattle.module_graph.specs.ModuleOrder.{IsModuleOrder}
-use Rattle.module_graph.proofs.FirstSights.{IsEarlier, IsFirstSight, earlier_cases, first_sight}
 use Rattle.module_graph.proofs.Sights.{at_number, same}
+use Rattle.watch_laws.proofs.FirstSights.{IsEarlier, IsFirstSight, earlier_cases, first_sight}
 
 -- the module of a number has a path, which leads to known paths, and its targets are their numbers
 pub record IsNumberedAt (Leads : List ℕ → List (List ℕ) → Type 0) (graph : Graph) (known : List (List ℕ)) (m : ℕ) : Type 0 where

@@ -1,0 +1,5 @@
+mod FirstSights
+mod OneAnswer
+mod OneModules
+mod OneNumbering
+mod OneWalks
