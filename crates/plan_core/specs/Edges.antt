@@ -1,13 +1,9 @@
 -- The edges of modules: those that their declarations lead to, and which of them are active.
-use Rattle.std.specs.Prelude.{ℕ, Bool, false, not, ◌==◌, List, [], ◌∷◌, length, map, if◌then◌else◌, slice_index, slice_index_or}
-use Rattle.std.specs.List.{filter, range_with_len}
+use Rattle.std.specs.Prelude.{ℕ, Bool, false, List, [], length, map, if◌then◌else◌, slice_index, slice_index_or}
+use Rattle.std.specs.List.{range_with_len}
 use Rattle.pk_types.specs.declared.graph.Graph.{Graph}
 use Rattle.pk_types.specs.declared.graph.Row.{Row}
-
--- the numbers, each where it stands first
-abbrev pub first_places : List ℕ → List ℕ
-first_places [] = []
-first_places (number ∷ numbers) = number ∷ filter (λ other. not (other == number)) (first_places numbers)
+use Rattle.pk_types.specs.ActiveEdges.{first_places}
 
 -- the targets of the declarations, in the order of these
 abbrev pub declared_targets : Row → List ℕ
