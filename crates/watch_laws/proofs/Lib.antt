@@ -1,5 +1,5 @@
 mod FirstSights
-mod OneAnswer
+pub mod OneAnswer
 mod OneModules
 mod OneNumbering
 mod OneWalks

@@ -1,0 +1,5 @@
+use Rattle.plan_laws.proofs.OnePlan.{plan_once}
+use Rattle.plan_laws.proofs.one.a_graph_has_one_plan.Goals as goal
+
+pub returns : goal.returns
+returns c = plan_once
