@@ -5,7 +5,7 @@ use Rattle.pk_base.specs.Calls.{Held}
 use Rattle.watch_core.specs.declared.faults.BuildFault.{BuildFault}
 use Rattle.watch_core.specs.declared.walk.Found.{Found}
 use Rattle.watch_laws.proofs.OneAnswer.{one_answer}
-use Rattle.plan_laws.proofs.OnePlan.{plan_once}
+use Rattle.plan_laws.proofs.SamePlans.{plan_once}
 use Rattle.pack_cli.specs.Output.{Bundle, IsBundle, HasBundle, bundle_of, built_lines}
 use Rattle.pack_cli.specs.Answers.{fault_line}
 use Rattle.pack_cli.specs.declared.faults.RoundFault.TheVariants as round

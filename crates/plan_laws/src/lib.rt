@@ -1,6 +1,10 @@
-//! What the definition of a plan comes to.
+//! Laws of plans: a graph has one, and what is planned so far is the plan by the general definitions.
 #![tactic(auto)]
 
 mod one;
+mod plans;
 
 pub use one::a_graph_has_one_plan;
+pub use plans::{
+    bare_graphs_have_one_plan, edges_avoid_flagged_modules, plans_of_bare_graphs_are_plans,
+};

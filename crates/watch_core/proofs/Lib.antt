@@ -1,4 +1,4 @@
-mod FactsFitting
+pub mod FactsFitting
 mod FactsRequests
 mod FilePaths
 mod Finding

@@ -1,5 +1,7 @@
 mod FirstSights
-pub mod OneAnswer
-mod OneModules
 mod OneNumbering
+mod OneModules
 mod OneWalks
+pub mod OneAnswer
+mod BareTrees
+mod FittingTrees

@@ -1,13 +1,9 @@
-//! A law of the definitions that say what is found in a tree.
+//! Laws of what is found in a tree: it has one answer, and its modules have one plan, which is that by the general
+//! definitions.
 #![tactic(auto)]
 
-ghost use Rattle.std.specs.Prelude.{◌≡◌, ℕ, List, Result};
-ghost use Rattle.pk_base.specs.Calls.{Held as Tree};
-ghost use Rattle.watch_core.specs.Builds.{Finds};
-ghost use Rattle.watch_core.specs.declared.faults.BuildFault.{BuildFault as Fault};
-ghost use Rattle.watch_core.specs.declared.walk.Found.{Found as Modules};
+mod answer;
+mod trees;
 
-/// A tree has one answer at most, its modules or its first fault, and is asked for one list of paths on the way.
-pub fn finds_one_answer()
-    ensures { (tree : Tree) (asks others : List (List ℕ)) (one other : Result Modules Fault) → Finds tree asks one → Finds tree others other → (one ≡ other) × (asks ≡ others) }
-{}
+pub use answer::finds_one_answer;
+pub use trees::{modules_of_trees_are_bare, plans_of_trees_are_plans};

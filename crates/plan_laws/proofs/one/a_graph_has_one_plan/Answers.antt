@@ -1,4 +1,4 @@
-use Rattle.plan_laws.proofs.OnePlan.{plan_once}
+use Rattle.plan_laws.proofs.SamePlans.{plan_once}
 use Rattle.plan_laws.proofs.one.a_graph_has_one_plan.Goals as goal
 
 pub returns : goal.returns
