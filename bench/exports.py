@@ -2,10 +2,12 @@
 """Times what exported names stand for, by the program exports_run: through chains of 1,000 to 16,000 stars, in modules that
 have as many as 10,000 stars, and in modules that export 1,000 to 10,000 names of as many others.
 
-Each graph is read with many questions, with as many that one step answers, and without any. Prints, for each shape and size,
-from the least processor times of 5 runs: for stars, what the first take above the second for each module or star that they go
-through; for names, what the first take above no questions for each of them; what the reading takes for each module; and how
-much more the largest takes than the smallest.
+Each graph is read with many questions, with as many that the last module answers by itself, and without any. Prints, for each
+shape and size, from the least processor times of 5 runs, what the first take above the second, and how much more the largest
+takes than the smallest: for stars, for each module or star that a question goes through; for names, for each question, and
+also what it takes in all, above none; without a resolver that is kept, for each name of the module. The shape of all names
+asks another module each time and shows what caches hold: it grows with the graph, though each question takes the same steps.
+What reading the graph takes for each module is printed too, the start of the program included.
 Run it as: python3 bench/exports.py
 """
 import os
@@ -41,8 +43,14 @@ def stars(count):
     return rows, ["0.x"], [f"binding 0 of {count}"]
 
 
+def last_name_alone(count):
+    """The same without a resolver that is kept from one question to the next."""
+    rows, questions, found = last_name(count)
+    return rows, [question.replace(".", ":") for question in questions], found
+
+
 def all_names(count):
-    """The same as the second, but each of the names is asked, again and again in an order without a pattern."""
+    """The modules of `last_name`, but each of the names is asked, again and again in an order without a pattern."""
     rows, _, _ = last_name(count)
     places = list(range(1, count + 1))
     random.Random(count).shuffle(places)
@@ -82,7 +90,7 @@ def least(runs):
 
 
 def measured(shape, sizes, asked, goes_through):
-    """What asking takes and what reading takes, in nanoseconds for each part, at each size."""
+    """What asking takes above a question to the last module, what it takes in all, and what reading takes, in nanoseconds."""
     runs, wanted, parts = {}, {}, {}
     for count in sizes:
         rows, questions, found = shape(count)
@@ -90,16 +98,19 @@ def measured(shape, sizes, asked, goes_through):
         rounds = max(1, asked // through // len(questions))
         parts[count] = rounds * len(questions) * through
         wanted[count] = "".join(f"{question} is {one}\n" for question, one in zip(questions, found)) * rounds
+        near = f"{len(rows) - 1}{questions[0][1]}x"
         runs[count, "far"] = rows, questions * rounds
-        runs[count, "near"] = rows, [f"{len(rows) - 1}.x"] * (len(questions) * rounds)
+        runs[count, "near"] = rows, [near] * (len(questions) * rounds)
         runs[count, "none"] = rows, []
     seconds, printed = least(runs)
     for count in sizes:
         if printed[count, "far"] != wanted[count]:
             sys.exit(f"a wrong answer in {shape.__name__} of {count}: {printed[count, 'far'][:80]}")
-    base = "near" if goes_through else "none"
-    asking = [(seconds[count, "far"] - seconds[count, base]) / parts[count] * 1e9 for count in sizes]
-    return asking, [seconds[count, "none"] / count * 1e9 for count in sizes]
+
+    def above(base):
+        return [(seconds[count, "far"] - seconds[count, base]) / parts[count] * 1e9 for count in sizes]
+
+    return above("near"), above("none"), [seconds[count, "none"] / count * 1e9 for count in sizes]
 
 
 def main():
@@ -109,9 +120,13 @@ def main():
         ("the last of a module's stars", stars, BARRELS, 4_000_000, "star"),
         ("the last of a module's names", last_name, BARRELS, 500_000, None),
         ("all of a module's names", all_names, BARRELS, 500_000, None),
+        ("the last of a module's names alone", last_name_alone, BARRELS, 4_000_000, "name"),
     ):
-        asking, reading = measured(shape, sizes, asked, part is not None)
-        for what, each, values in (("asking", part or "question", asking), ("reading", "module", reading)):
+        near, whole, reading = measured(shape, sizes, asked, part is not None)
+        lines = [("asking", part or "question", near), ("reading", "module", reading)]
+        if part is None:
+            lines.insert(1, ("asking in all", "question", whole))
+        for what, each, values in lines:
             shown = ", ".join(f"{count}: {value:.1f}" for count, value in zip(sizes, values))
             print(f"{title}, {what}: nanoseconds for each {each} {shown}; largest by smallest {values[-1] / values[0]:.2f}")
 

@@ -1,5 +1,5 @@
 -- What a module leads to that is asked for a name.
-use Rattle.std.proofs.Common.{◌≡◌, ◌≢◌, ℕ, zero, suc, ◌<◌, ◌||◌, ◌&&◌, ⊎_elim, Bool, true, false, not, cond, nat_eq, List, [], ◌∷◌, ◌++◌, length, Some, slice_get, option_map, refl, sym, ap, subst, ◌∙◌, arith, eq-eqb}
+use Rattle.std.proofs.Common.{◌≡◌, ◌≢◌, ℕ, ◌<◌, ◌||◌, ◌&&◌, ⊎_elim, Bool, true, false, not, cond, nat_eq, List, [], ◌∷◌, ◌++◌, length, Some, slice_get, option_map, refl, sym, ap, subst, ◌∙◌, arith, eq-eqb}
 use Rattle.std.specs.List.{Contains, list_any}
 use Rattle.std.specs.Str.{bytes_eq}
 use Rattle.std.specs.Cmp.Lexicographic.{bytes_decides}
@@ -10,6 +10,7 @@ use Rattle.std.proofs.lemmas.List.Elements.{Contains-append_cases, Contains-push
 use Rattle.std.proofs.lemmas.Map.Views.{exact_unsigned_eq}
 use Rattle.indexmap.specs.IndexSet.{insert_key}
 use Rattle.indexmap.proofs.CallerLemmas.{Contains-list_any}
+use Rattle.pk_types.proofs.Members.{element_at}
 use Rattle.pk_types.specs.declared.facts.Kind.{Kind}
 use Rattle.pk_types.specs.declared.facts.Kind.TheVariants.{Es}
 use Rattle.pk_types.specs.declared.graph.Graph.{Graph}
@@ -76,6 +77,10 @@ pairs_inserted keys key = by (list_any (λ (other : ℕ × Key). nat_eq key.0 ot
         ap (λ b. pairs (cond b keys (keys ++ key ∷ []))) e ∙ map-append (λ (key : ℕ × Key). (key.0, key.1.0.now)) keys (key ∷ [])
         ∙ sym (ap (λ b. cond b (pairs keys) (pairs keys ++ (key.0, key.1.0.now) ∷ [])) (sym (any_pair key keys) ∙ e))
 
+-- a number that is in range is that of a row
+pub row_there : (graph : Graph) (number : ℕ) → number < length graph.rows → (row : Row) × (slice_get graph.rows number ≡ Some row)
+row_there graph number inside = element_at graph.rows number inside
+
 module _ (graph : Graph) (before : List Pair) (number : ℕ) (name given : List ℕ) (same : given ≡ name) where
   pub asks_foreign : (kind : Kind) → kind_at graph number ≡ Some kind → kind ≢ Es → Asks graph before number name before (steps.Answer (Foreign number given))
   asks_foreign kind at not_es = record {
@@ -122,18 +127,10 @@ module _ (graph : Graph) (before : List Pair) (number : ℕ) (name given : List 
             omega (arith, opens.light, less, ap (λ a. unvisited a (length graph.rows) (names_within graph first)) new_is);
       }
 
-  row_there : number < length graph.rows → (row : Row) × (slice_get graph.rows number ≡ Some row)
-  row_there inside = there graph.rows number inside
-    where
-      there : (rows : List Row) (place : ℕ) → place < length rows → (row : Row) × (slice_get rows place ≡ Some row)
-      there [] place h = absurd (omega (arith, h))
-      there (row ∷ rows) zero h = (row, refl)
-      there (row ∷ rows) (suc place) h = there rows place (omega (arith, h))
-
   pub asks_first_there : (after : List Pair) (step : Step) → number < length graph.rows → kind_at graph number ≡ Some Es
       → not (list_any (same_pair (number, given)) before) ≡ true → after ≡ insert_key same_pair before (number, given) → Opens graph number name step
       → Asks graph before number name after step
   asks_first_there after step inside es new inserted opens =
-      let found = row_there inside in
+      let found = row_there graph number inside in
       asks_first after found.0 step found.1 (same_Some (found.0).facts.kind Es (sym (ap (option_map (λ (row : Row). row.facts.kind)) found.1) ∙ es)) inside
       (not_true (list_any (same_pair (number, given)) before) new) inserted opens

@@ -105,8 +105,3 @@ module _ (name : List ℕ) (keys : List Key) (exports : List ExportEntry) (are :
 
   pub at_no_place : position (λ (key : Key). bytes_eq name key.0.now) keys ≡ None → find (λ (entry : ExportEntry). bytes_eq entry.name name) exports ≡ None
   at_no_place e = at_no_place_from name exports 0 (sym (key_place name keys ∙ ap (position_from (bytes_eq name) 0) are) ∙ e)
-
--- what two lists come to alike at all places they come to alike at each
-pub same_at : {X Y : Type 0} (f : X → List (List ℕ)) (g : Y → List (List ℕ)) (xs : List X) (ys : List Y) (k : ℕ) (x : X) (y : Y) → map f xs ≡ map g ys → k < length ys → f (get_or xs k x) ≡ g (get_or ys k y)
-same_at f g xs ys k x y same within =
-    sym (get_or-map f xs k x [] (omega (arith, within, length-map xs f, ap length same, length-map ys g))) ∙ ap (λ l. get_or l k []) same ∙ get_or-map g ys k y [] within

@@ -1,4 +1,4 @@
-ghost use Rattle.std.specs.Prelude.{◌<◌, length, IfOk};
+ghost use Rattle.std.specs.Prelude.{◌≡◌, ◌<◌, length, IfOk};
 ghost use Rattle.pk_types.specs.Fitting.{Fits};
 ghost use Rattle.pk_types.specs.Resolving.{Resolves};
 
@@ -9,11 +9,12 @@ use pk_types::{Found, Graph, Name};
 use std::alloc::{AllocError, Global};
 
 impl<'a> Resolver<'a> {
-    /// What the name stands for where it is imported from the module. Each pair of a module and a name is gone through
-    /// once.
-    pub fn resolve(&self, alloc: Global, module: u32, name: &Name) -> Result<Found, AllocError>
-        requires { «module» < length self.now.rows }
-        ensures { IfOk result (Resolves self.now «module» name.now) }
+    /// What the name stands for where it is imported from the module. Each pair of a module of ECMAScript and a name is
+    /// gone through once at most, and the stars of a module once at most for each name.
+    pub fn resolve(&mut self, alloc: Global, module: u32, name: &Name) -> Result<Found, AllocError>
+        requires { «module» < length self.old.rows }
+        ensures found { IfOk result (Resolves self.old «module» name.now) }
+        ensures same { self.new ≡ self.old }
     {
         let mut visited = IndexSet::new(alloc);
         let mut waiting = Vec::new(alloc);
@@ -31,8 +32,8 @@ impl<'a> Resolver<'a> {
     }
 }
 
-/// What the name stands for where it is imported from the module. For several questions make one `Resolver`, as this does
-/// for its own.
+/// What the name stands for where it is imported from the module: a single question to a `Resolver` of its own. It goes
+/// through the exports of the modules that the question comes to, and of no others.
 pub fn resolve_export(
     alloc: Global,
     graph: &Graph,
@@ -43,5 +44,5 @@ pub fn resolve_export(
     requires module { «module» < length graph.now.rows }
     ensures { IfOk result (Resolves graph.now «module» name.now) }
 {
-    Resolver::new(alloc, graph)?.resolve(alloc, module, name)
+    Resolver::new(alloc, graph).resolve(alloc, module, name)
 }

@@ -1,36 +1,35 @@
-ghost use Rattle.std.specs.Prelude.{◌≡◌, ◌<◌, ℕ, List, length, map, find, slice_get, Some, IfOk, option_copied};
+ghost use Rattle.std.specs.Prelude.{◌≡◌, ◌<◌, ℕ, List, length, map, find, slice_get, Some, IfOk, IfSome, option_copied};
 ghost use Rattle.std.specs.Str.{bytes_eq};
 ghost use Rattle.pk_types.specs.declared.graph.Row.{Row};
 ghost use Rattle.pk_types.specs.Fitting.{Fits, RowFits};
 ghost use Rattle.pk_types.specs.Resolving.{origin_of};
-ghost use Rattle.export_names.specs.Indexed.{HaveApartNames, export_names, exported};
+ghost use Rattle.export_names.specs.Indexed.{HaveApartNames, export_names};
 
-use indexmap::IndexSet;
+use indexmap::{IndexMap, IndexSet};
 use pk_types::{ExportEntry, Graph, Key, Origin, Row};
 use std::alloc::{AllocError, Global};
 use std::marker::Model;
 
-/// Answers what the names of a graph's modules stand for. It is made once for a graph, in time by the number of all
-/// exports, and then finds an export by its name, however many a module has.
+/// Answers what the names of a graph's modules stand for. The first question that comes to a module goes through its
+/// exports once; then each of them is found by its name, without going through the others.
 #[derive(Drop)]
 pub struct Resolver<'a> {
     graph: &'a Graph,
 
-    // For each module the names of its exports, in their order.
-    names: Vec<IndexSet<Key<'a>>>,
+    // For each module that was asked, the names of its exports, in their order.
+    names: IndexMap<u32, IndexSet<Key<'a>>>,
 }
 
 impl<'a> Model for Resolver<'a> {
-    ghost use Rattle.std.specs.Prelude.{◌≡◌, map};
     ghost use Rattle.pk_types.specs.declared.graph.Graph.{Graph};
     ghost use Rattle.pk_types.specs.Fitting.{Fits};
-    ghost use Rattle.export_names.specs.Indexed.{exported};
+    ghost use Rattle.export_names.specs.Indexed.{AreIndexed};
 
     ghost Value = { Graph };
 
     ghost view = { λ resolver. resolver.graph.now };
 
-    ghost invariant = { λ resolver. Fits resolver.graph.now × (map (λ names. map (λ key. key.0.now) names.keys) resolver.names.items ≡ exported resolver.graph.now) };
+    ghost invariant = { λ resolver. Fits resolver.graph.now × AreIndexed resolver.graph.now resolver.names };
 }
 
 // The names of exports, in their order.
@@ -59,16 +58,23 @@ fn export_of<'a>(
 }
 
 impl<'a> Resolver<'a> {
-    /// A resolver of the graph.
-    pub fn new(alloc: Global, graph: &'a Graph) -> Result<Resolver<'a>, AllocError>
+    /// A resolver of the graph, which has gone through no exports yet.
+    pub fn new(alloc: Global, graph: &'a Graph) -> Resolver<'a>
         requires { Fits graph.now }
-        ensures { IfOk result (λ resolver. resolver ≡ graph.now) }
+        ensures { result ≡ graph.now }
     {
-        let mut names = Vec::with_capacity(alloc, graph.rows.len())?;
-        for row in graph.rows.as_slice() {
-            names.push(index(alloc, row.facts.exports.as_slice())?)?;
+        Resolver {
+            graph,
+            names: IndexMap::new(alloc),
         }
-        Ok(Resolver { graph, names })
+    }
+
+    /// The graph that it was made for.
+    pub fn graph(&self) -> &'a Graph
+        ensures graph { result.now ≡ self.now }
+        ensures fits { Fits self.now }
+    {
+        self.graph
     }
 
     /// The row of a module.
@@ -80,14 +86,44 @@ impl<'a> Resolver<'a> {
         &self.graph.rows.as_slice()[module as usize]
     }
 
-    /// Where the export of this name comes from, if the module has one.
-    pub fn origin(&self, module: u32, name: &[u8]) -> Option<&'a Origin>
-        requires { «module» < length self.now.rows }
-        ensures { (row : Row) → slice_get self.now.rows «module» ≡ Some row → option_copied result ≡ origin_of row.facts name.now }
+    // The export that has the name, if the module of this row has one.
+    fn export(
+        &mut self,
+        alloc: Global,
+        module: u32,
+        row: &'a Row,
+        name: &[u8],
+    ) -> Result<Option<&'a ExportEntry>, AllocError>
+        requires at { slice_get self.old.rows «module» ≡ Some row.now }
+        requires apart { HaveApartNames row.now.facts.exports }
+        ensures export { IfOk result (λ export. option_copied export ≡ find (λ entry. bytes_eq entry.name name.now) row.now.facts.exports) }
+        ensures same { self.new ≡ self.old }
     {
-        let exports = self.row(module).facts.exports.as_slice();
-        let names = &self.names[module as usize];
-        let export = export_of(exports, names, name)?;
-        Some(&export.origin)
+        let exports = row.facts.exports.as_slice();
+        if let Some(names) = self.names.get(&module) {
+            return Ok(export_of(exports, names, name));
+        }
+        let names = index(alloc, exports)?;
+        let export = export_of(exports, &names, name);
+        self.names.insert(module, names)?;
+        Ok(export)
+    }
+
+    /// Where the export of this name comes from, if the module has one.
+    pub fn origin(
+        &mut self,
+        alloc: Global,
+        module: u32,
+        name: &[u8],
+    ) -> Result<Option<&'a Origin>, AllocError>
+        requires { «module» < length self.old.rows }
+        ensures origin { IfOk result (λ origin. (row : Row) → slice_get self.old.rows «module» ≡ Some row → option_copied origin ≡ origin_of row.facts name.now) }
+        ensures same { self.new ≡ self.old }
+    {
+        let row = self.row(module);
+        match self.export(alloc, module, row, name)? {
+            Some(export) => Ok(Some(&export.origin)),
+            None => Ok(None),
+        }
     }
 }

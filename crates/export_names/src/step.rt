@@ -1,6 +1,7 @@
 // The steps of a search for what an exported name stands for.
-ghost use Rattle.std.specs.Prelude.{◌≡◌, ◌≢◌, ◌↔◌, false, Some, IsTrue, ℕ, List, ◌<◌, ◌+◌, ◌++◌, ◌∷◌, [], length, slice_get, IfOk, OnOk, option_copied};
+ghost use Rattle.std.specs.Prelude.{◌≡◌, ◌≢◌, ◌↔◌, false, Some, None, IsTrue, ℕ, List, ◌<◌, ◌+◌, ◌++◌, ◌∷◌, [], length, slice_get, IfOk, OnOk, option_copied};
 ghost use Rattle.pk_types.specs.Resolving.{default_name, kind_at, origin_of};
+ghost use Rattle.pk_types.specs.declared.graph.Row.{Row};
 ghost use Rattle.pk_types.specs.declared.facts.Kind.{Kind};
 ghost use Rattle.pk_types.specs.declared.facts.Kind.TheVariants.{Es};
 ghost use Rattle.export_names.specs.Searching.{Opens, Asks, GoesOn, Joins, StarsFit, pairs};
@@ -39,29 +40,38 @@ pub fn is_default(name: &[u8]) -> bool
     name == b"default".as_slice()
 }
 
-// Asks a module of ECMAScript for a name for the first time.
-fn open<'a, 'g: 'a>(resolver: &Resolver<'g>, module: u32, name: &'a [u8]) -> Step<'a>
-    requires { «module» < length resolver.now.rows }
+// How the question for a name goes on whose export comes from here, at a module of ECMAScript that is asked for it for
+// the first time.
+fn exported<'a, 'g: 'a>(resolver: &Resolver<'g>, module: u32, origin: &'g Origin) -> Step<'a>
+    requires module { «module» < length resolver.now.rows }
+    requires named { (name : List ℕ) × ((row : Row) → slice_get resolver.now.rows «module» ≡ Some row → origin_of row.facts name ≡ Some origin.now) }
+    ensures { (name : List ℕ) → ((row : Row) → slice_get resolver.now.rows «module» ≡ Some row → origin_of row.facts name ≡ Some origin.now)
+        → Opens resolver.now «module» name result }
+{
+    let targets = resolver.row(module).targets.as_slice();
+    match origin {
+        Origin::Own(binding) => Step::Answer(Found::Binding(module, *binding)),
+        Origin::Space(request) => Step::Answer(Found::Namespace(targets[*request as usize])),
+        Origin::Other(request, other) => { Step::Ask(targets[*request as usize], other.as_slice()) }
+    }
+}
+
+// The same where the module has no export of the name.
+fn unexported<'a, 'g: 'a>(resolver: &Resolver<'g>, module: u32, name: &'a [u8]) -> Step<'a>
+    requires module { «module» < length resolver.now.rows }
+    requires none { (row : Row) → slice_get resolver.now.rows «module» ≡ Some row → origin_of row.facts name.now ≡ None }
     ensures { Opens resolver.now «module» name.now result }
 {
-    let row = resolver.row(module);
-    let targets = row.targets.as_slice();
-    match resolver.origin(module, name) {
-        Some(Origin::Own(binding)) => Step::Answer(Found::Binding(module, *binding)),
-        Some(Origin::Space(request)) => {
-            Step::Answer(Found::Namespace(targets[*request as usize]))
-        }
-        Some(Origin::Other(request, other)) => {
-            Step::Ask(targets[*request as usize], other.as_slice())
-        }
-        None if is_default(name) => Step::Answer(Found::Nothing),
-        None => Step::Stars(Stars {
-            targets,
-            name,
-            stars: row.facts.stars.as_slice(),
-            so_far: Found::Nothing,
-        }),
+    if is_default(name) {
+        return Step::Answer(Found::Nothing);
     }
+    let row = resolver.row(module);
+    Step::Stars(Stars {
+        targets: row.targets.as_slice(),
+        name,
+        stars: row.facts.stars.as_slice(),
+        so_far: Found::Nothing,
+    })
 }
 
 // Whether a module is one of ECMAScript.
@@ -76,13 +86,14 @@ fn is_es(resolver: &Resolver<'_>, module: u32) -> bool
 // Asks a module for a name. Visited are the pairs of a module of ECMAScript and a name that were gone through.
 pub fn ask<'a, 'g: 'a>(
     alloc: Global,
-    resolver: &Resolver<'g>,
+    resolver: &mut Resolver<'g>,
     visited: &mut IndexSet<(u32, Key<'a>)>,
     module: u32,
     name: &'a [u8],
 ) -> Result<Step<'a>, AllocError>
-    requires { «module» < length resolver.now.rows }
-    ensures { IfOk result (Asks resolver.now (pairs visited.old.keys) «module» name.now (pairs visited.new.keys)) }
+    requires { «module» < length resolver.old.rows }
+    ensures same { resolver.new ≡ resolver.old }
+    ensures asks { IfOk result (Asks resolver.old (pairs visited.old.keys) «module» name.now (pairs visited.new.keys)) }
 {
     if !is_es(resolver, module) {
         let name = Text::from_slice(alloc, name)?;
@@ -90,7 +101,10 @@ pub fn ask<'a, 'g: 'a>(
     }
     let is_first = visited.insert((module, Key(name)))?;
     if is_first {
-        Ok(open(resolver, module, name))
+        match resolver.origin(alloc, module, name)? {
+            Some(origin) => Ok(exported(resolver, module, origin)),
+            None => Ok(unexported(resolver, module, name)),
+        }
     } else {
         Ok(Step::Answer(Found::Nothing))
     }

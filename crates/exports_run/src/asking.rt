@@ -1,5 +1,5 @@
 // Questions about a graph, and their answers.
-ghost use Rattle.std.specs.Prelude.{◌≡◌, ◌<◌, length};
+ghost use Rattle.std.specs.Prelude.{◌<◌, length};
 ghost use Rattle.pk_types.specs.Fitting.{Fits};
 
 use crate::building::build;
@@ -48,13 +48,10 @@ fn put_names(alloc: Global, out: &mut Vec<u8>, graph: &Graph, module: u32) -> Re
 fn put_answer(
     alloc: Global,
     out: &mut Vec<u8>,
-    graph: &Graph,
-    resolver: &Resolver<'_>,
+    resolver: &mut Resolver<'_>,
     question: &str,
-) -> Result<(), AllocError>
-    requires fits { Fits graph.now }
-    requires same { resolver.now ≡ graph.now }
-{
+) -> Result<(), AllocError> {
+    let graph = resolver.graph();
     let (is_alone, split) = match question.split_once('.') {
         Some(split) => (false, Some(split)),
         None => (true, question.split_once(':')),
@@ -85,11 +82,11 @@ pub fn put_answers(alloc: Global, out: &mut Vec<u8>, block: &str) -> Result<(), 
         Err(Fault::TooMany) => return out.extend_from_slice(b"too many\n"),
         Err(Fault::NoMemory) => return out.extend_from_slice(b"no memory\n"),
     };
-    let resolver = Resolver::new(alloc, &graph)?;
+    let mut resolver = Resolver::new(alloc, &graph);
     for question in questions.split_whitespace() {
         out.extend_from_slice(question.as_bytes())?;
         out.extend_from_slice(b" is ")?;
-        put_answer(alloc, out, &graph, &resolver, question)?;
+        put_answer(alloc, out, &mut resolver, question)?;
         out.push(b'\n')?;
     }
     Ok(())

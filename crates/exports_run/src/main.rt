@@ -1,7 +1,8 @@
-//! Reads graphs of modules, and prints what exported names stand for. A block of the input begins with its questions: `0.x`,
-//! or `0:x` to ask without a resolver, or `0` for all names of a module. Each other line is a module. Its first word is its
-//! kind: `E`, `C` for CommonJS or `J` for JSON. Then come its exports: `x` is of a binding of its own, `x=0` of its first
-//! binding again, `x=1.y` a name of module 1, `x=1.*` its namespace, and `*1` a star.
+//! Reads graphs of modules, and prints what exported names stand for. Blocks stand apart by an empty line. A block begins
+//! with its questions: `0.x`, or `0:x` to ask without a resolver that is kept, or `0` for all names of a module. Each other
+//! line is a module. It begins with its kind: `E`, `C` for CommonJS or `J` for JSON. Then come its exports: `x` is of a
+//! binding of its own, `x=0` of its first binding again, `x=1.y` a name of module 1, `x=1.*` its namespace, and `*1` a
+//! star. A block that is no graph is answered by `no graph`.
 #![tactic(auto)]
 
 mod asking;

@@ -22,7 +22,7 @@ pub fn no_group_before()
     ensures all { (groups : Groups) (group number : ℕ) → group < groups.entries → Holds groups number group → IsPlaced groups group number }
 {}
 
-/// What is available in a group is what each group that leads there has, or has available.
+/// What is available in a group that is none of an entry is what each group that leads there has, or has available.
 pub fn available_by_parents()
     ensures enough { (groups : Groups) (group number : ℕ) → groups.entries ≤ group
         → ((parent : ℕ) → Leads groups parent group → Holds groups number parent ⊎ IsAvailable groups parent number) → IsAvailable groups group number }
@@ -63,7 +63,7 @@ pub fn groups_stand_alone()
     ensures { (graph : Graph) (active : Active) (groups : Groups) → IsGroups graph active groups → IsShort groups.targets → GroupsFit groups }
 {}
 
-/// The modules of a group are its target and what active edges and `require` lead to from them.
+/// A group has its target, and with a module what active edges and `require` lead to from it.
 pub fn closures_are_closed()
     ensures itself { (graph : Graph) (active : Active) (groups : Groups) → IsGroups graph active groups
         → (group target : ℕ) → slice_get groups.targets group ≡ Some target → Holds groups target group }

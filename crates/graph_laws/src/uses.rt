@@ -82,7 +82,8 @@ pub fn used_stops_are_reached()
     ensures spaces { (graph : Graph) → Fits graph → (target : ℕ) → IsWhole graph target → IsReached graph target }
 {}
 
-/// A name that leads to one thing has a stop. Where no export of its module has the name, it is found through a star.
+/// A name that leads to one thing has a stop. Where its module is one of ECMAScript and has no export of the name, it is
+/// found through a star.
 pub fn found_names_have_stops()
     ensures stop { (graph : Graph) (number : ℕ) (name : List ℕ) (found : Found) → FindsOne graph number name found
         → (stop : ℕ) × IsStopOf graph number name stop }

@@ -1,4 +1,4 @@
-//! Laws of plans: a graph has one, and what is planned so far is the plan by the general definitions.
+//! Laws of plans: a graph has one at most, and what is planned so far is the plan by the general definitions.
 #![tactic(auto)]
 
 mod one;

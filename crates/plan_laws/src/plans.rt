@@ -20,7 +20,8 @@ ghost use Rattle.plan_laws.specs.GeneralPlans.{IsGeneralPlan};
 
 /// What is planned so far is what the general definitions say: the plan of a bare graph has its use, its active edges,
 /// its groups and what each brings, the chunks where none is split, the scopes where none is shared, the names of these
-/// scopes, and natural ids. The edges are so where no module is said to have no side effects.
+/// scopes, and natural ids. The edges are so where the graph fits and no
+/// module is said to have no side effects.
 pub fn plans_of_bare_graphs_are_plans()
     ensures used { (graph : Graph) (plan : Plan) → IsBare graph → IsPlan graph plan → HasUse graph plan.used }
     ensures edges { (graph : Graph) (plan : Plan) → Fits graph → IsBare graph → All (λ row. row.flagged ≡ false) graph.rows → IsPlan graph plan
@@ -35,7 +36,8 @@ pub fn plans_of_bare_graphs_are_plans()
     ensures ids { (graph : Graph) (plan : Plan) → IsPlan graph plan → AreNaturalIds graph plan.chunks plan.ids }
 {}
 
-/// So it is the plan by the general definitions, and there is no other one.
+/// The plan of a bare graph that fits, and of no module of which it is said that it has no side effects, is the plan by
+/// the general definitions, and there is no other one.
 pub fn bare_graphs_have_one_plan()
     ensures is { (graph : Graph) → Fits graph → IsBare graph → All (λ row. row.flagged ≡ false) graph.rows → (plan : Plan) → IsPlan graph plan
         → IsGeneralPlan graph plan }
@@ -44,7 +46,8 @@ pub fn bare_graphs_have_one_plan()
 {}
 
 /// By the general definitions no edge of a bare graph leads to a module that is said to have no side effects, since none
-/// of its names is used. A plan as it is computed so far keeps such edges, so that `edges` above asks for no such module.
+/// of its names is used. A plan as it is computed so far keeps such edges, so that the clause
+/// `edges` of `plans_of_bare_graphs_are_plans` asks for no such module.
 pub fn edges_avoid_flagged_modules()
     ensures { (graph : Graph) → IsBare graph → (used : Used) (active : Active) → HasUse graph used → IsActive graph used active
         → (number target : ℕ) (targets : List ℕ) → slice_get active.edges number ≡ Some targets → Contains targets target

@@ -1,4 +1,4 @@
-//! Laws of what is found in a tree: it has one answer, and its modules have one plan, which is that by the general
+//! Laws of what is found in a tree: it has one answer at most, and a plan of its modules is the one by the general
 //! definitions.
 #![tactic(auto)]
 

@@ -18,7 +18,8 @@ pub fn modules_of_trees_are_bare()
         → All (λ row. row.flagged ≡ false) graph.rows }
 {}
 
-/// So their plan as it is computed so far is the plan by the general definitions, and there is no other one.
+/// The plan of a tree's modules, as it is computed so far, is the plan by the general definitions, and there is no other
+/// one.
 pub fn plans_of_trees_are_plans()
     ensures is { (t : Held) (graph : Graph) (bodies : List Body) (asks : List (List ℕ)) → HasModules t graph bodies asks
         → (plan : Plan) → IsPlan graph plan → IsGeneralPlan graph plan }
