@@ -1,6 +1,6 @@
 -- Distinct names that were sorted by their bytes are in byte order.
 use Rattle.std.proofs.Common.{◌≡◌, ℕ, false, List, [], ◌∷◌, get_or, refl, sym, ap, ◌∙◌, arith}
-use Rattle.std.specs.List.{IsDistinct}
+use Rattle.std.specs.List.{IsDistinct, AllByRecursion}
 use Rattle.std.specs.List.Sorted.{IsPermutation, IsSortedBy}
 use Rattle.std.specs.Ordering.{nat_cmp, is_lt, is_eq, ordering_then, ordering_reverse}
 use Rattle.std.specs.declared.cmp.Ordering.{Ordering}
@@ -11,7 +11,19 @@ use Rattle.std.proofs.lemmas.Bool.{true≢false}
 use Rattle.std.proofs.lemmas.Cmp.{ranked, nat_list_cmp_total}
 use Rattle.std.proofs.lemmas.List.Sorted.{ranks_by, sorted_far}
 use Rattle.std.proofs.lemmas.Map.Keys.{apart_from_distinct, IsDistinct-IsPermutation}
+use Rattle.pk_types.specs.declared.text.Key.{Key}
 use Rattle.pk_types.specs.ExportedNames.{AreInByteOrder}
+use Rattle.export_names.specs.Collected.{key_names}
+
+-- keys that differ have names that differ
+apart_from : (key : Key) (keys : List Key) → AllByRecursion (λ (other : Key). bytes_eq key.0.now other.0.now ≡ false) keys → AllByRecursion (λ name. bytes_eq key.0.now name ≡ false) (key_names keys)
+apart_from key [] apart = tt
+apart_from key (other ∷ keys) apart = (apart.0, apart_from key keys apart.1)
+
+pub distinct_names : (keys : List Key) → IsDistinct (λ (key other : Key). bytes_eq key.0.now other.0.now) keys → IsDistinct bytes_eq (key_names keys)
+unfolding IsDistinct
+distinct_names [] distinct = tt
+distinct_names (key ∷ keys) distinct = (apart_from key keys distinct.0, distinct_names keys distinct.1)
 
 equal_same : (name other : List ℕ) → slice_cmp nat_cmp name other ≡ Equal → name ≡ other
 equal_same [] [] e = refl

@@ -4,15 +4,28 @@ use Rattle.std.specs.List.{Contains, list_any}
 use Rattle.std.specs.Str.{bytes_eq}
 use Rattle.std.specs.Cmp.Lexicographic.{bytes_decides}
 use Rattle.std.proofs.lemmas.Bool.{true≢false}
-use Rattle.std.proofs.lemmas.List.{map_more}
+use Rattle.std.proofs.lemmas.List.{map_more, map-append}
 use Rattle.std.proofs.lemmas.List.Elements.{Contains-append_left, Contains-push, Contains-push_cases}
 use Rattle.indexmap.specs.IndexSet.{insert_key}
 use Rattle.indexmap.proofs.CallerLemmas.{Contains-insert_key}
 use Rattle.pk_types.specs.declared.facts.ExportEntry.{ExportEntry}
 use Rattle.pk_types.specs.declared.graph.Graph.{Graph}
+use Rattle.pk_types.specs.declared.text.Key.{Key}
 use Rattle.pk_types.specs.ExportedNames.{ExportsItself}
 use Rattle.pk_types.specs.Resolving.{default_name}
-use Rattle.export_names.specs.Collected.{IsGiven, HasMore, IsCollected}
+use Rattle.export_names.proofs.Indexing.{any_name}
+use Rattle.export_names.specs.Collected.{key_names, IsGiven, HasMore, IsCollected}
+
+-- an insert of a key is one of its name
+pub key_inserted : (keys : List Key) (key : Key) → key_names (insert_key (λ (key other : Key). bytes_eq key.0.now other.0.now) keys key) ≡ insert_key bytes_eq (key_names keys) key.0.now
+key_inserted keys key = by (list_any (λ (other : Key). bytes_eq key.0.now other.0.now) keys) refl
+  where
+    by : (b : Bool) → list_any (λ (other : Key). bytes_eq key.0.now other.0.now) keys ≡ b
+        → key_names (insert_key (λ (key other : Key). bytes_eq key.0.now other.0.now) keys key) ≡ insert_key bytes_eq (key_names keys) key.0.now
+    by true e = ap (λ b. key_names (cond b keys (keys ++ key ∷ []))) e ∙ sym (ap (λ b. cond b (key_names keys) (key_names keys ++ key.0.now ∷ [])) (sym (any_name key.0.now keys) ∙ e))
+    by false e =
+        ap (λ b. key_names (cond b keys (keys ++ key ∷ []))) e ∙ map-append (λ (key : Key). key.0.now) keys (key ∷ [])
+        ∙ sym (ap (λ b. cond b (key_names keys) (key_names keys ++ key.0.now ∷ [])) (sym (any_name key.0.now keys) ∙ e))
 
 -- an inserted name is added to those that were there
 pub inserted : (names : List (List ℕ)) (new name : List ℕ) → Contains (insert_key bytes_eq names new) name ↔ (Contains names name ⊎ (new ≡ name))
@@ -89,9 +102,9 @@ given_no_one exports index entry with_default within at off default before names
 
 -- ---- the modules
 
-pub collected_none : (graph : Graph) (asked : ℕ) (names : List (List ℕ)) → names ≡ [] → (name : List ℕ) → Contains names name ↔ IsCollected graph asked [] name
-collected_none graph asked names none name =
-    (λ there. absurd (no (subst (λ l. Contains l name) none there)), λ one. absurd (omega (arith, one.1.1)))
+pub collected_none : (graph : Graph) (asked : ℕ) (keys : List Key) → keys ≡ [] → (name : List ℕ) → Contains (key_names keys) name ↔ IsCollected graph asked [] name
+collected_none graph asked keys none name =
+    (λ there. absurd (no (subst (λ l. Contains (key_names l) name) none there)), λ one. absurd (omega (arith, one.1.1)))
   where
     no : Contains [] name → ⊥
     no there = omega (arith, there.1)

@@ -13,7 +13,7 @@ use Rattle.pk_types.specs.declared.text.Key.{Key}
 use Rattle.export_names.specs.Indexed.{HaveApartNames, export_names}
 
 -- a test of keys that asks for their names alone
-any_name : (name : List ℕ) (keys : List Key) → list_any (λ (key : Key). bytes_eq name key.0.now) keys ≡ list_any (bytes_eq name) (map (λ (key : Key). key.0.now) keys)
+pub any_name : (name : List ℕ) (keys : List Key) → list_any (λ (key : Key). bytes_eq name key.0.now) keys ≡ list_any (bytes_eq name) (map (λ (key : Key). key.0.now) keys)
 any_name name [] = refl
 any_name name (key ∷ keys) = ap (λ b. bytes_eq name key.0.now || b) (any_name name keys)
 

@@ -3,8 +3,13 @@ use Rattle.std.specs.Prelude.{◌≡◌, ◌≢◌, ◌↔◌, ◌⊎◌, Bool, 
 use Rattle.std.specs.List.{Contains}
 use Rattle.pk_types.specs.declared.facts.ExportEntry.{ExportEntry}
 use Rattle.pk_types.specs.declared.graph.Graph.{Graph}
+use Rattle.pk_types.specs.declared.text.Key.{Key}
 use Rattle.pk_types.specs.ExportedNames.{ExportsItself}
 use Rattle.pk_types.specs.Resolving.{default_name}
+
+-- the names that are borrowed as keys of a set
+abbrev pub key_names : List Key → List (List ℕ)
+key_names keys = map (λ key. key.0.now) keys
 
 -- one of the exports has the name, and it is not `default` unless that counts
 abbrev pub IsGiven : List ExportEntry → Bool → List ℕ → Type 0
