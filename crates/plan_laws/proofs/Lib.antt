@@ -1,3 +1,4 @@
+pub mod SamePlans
 mod Unused
 mod SameEdges
 mod SameGroups
@@ -8,4 +9,3 @@ mod SameNames
 mod SameScopes
 mod FlaggedEdges
 pub mod OnePlan
-pub mod SamePlans

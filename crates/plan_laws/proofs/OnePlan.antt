@@ -1,12 +1,11 @@
 -- A plan as it is computed so far is the only plan by the general definitions.
-use Rattle.std.proofs.Common.{◌≡◌, false, None, length, sym, subst, ◌∙◌, arith}
+use Rattle.std.proofs.Common.{◌≡◌, false, None, length, sym, subst, ◌∙◌}
 use Rattle.std.specs.List.{All}
 use Rattle.pk_types.specs.declared.graph.Graph.{Graph}
 use Rattle.pk_types.specs.declared.plan.Active.{Active}
 use Rattle.pk_types.specs.declared.plan.Chunks.{Chunks}
 use Rattle.pk_types.specs.declared.plan.Groups.{Groups}
 use Rattle.pk_types.specs.declared.plan.Hoists.{Hoists}
-use Rattle.pk_types.specs.declared.plan.Ids.{Ids}
 use Rattle.pk_types.specs.declared.plan.Plan.{Plan}
 use Rattle.pk_types.specs.declared.plan.Used.{Used}
 use Rattle.pk_types.specs.Fitting.{Fits}
@@ -25,6 +24,7 @@ use Rattle.pk_types.proofs.OneGroups.{groups_once}
 use Rattle.pk_types.proofs.OneHoist.{one_hoisting}
 use Rattle.pk_types.proofs.OnePick.{one_split}
 use Rattle.plan_laws.specs.GeneralPlans.{IsGeneralPlan}
+use Rattle.plan_laws.proofs.SamePlans.{same_used, same_ids, same_plans}
 use Rattle.plan_laws.proofs.Unused.{nothing_used, only_unused}
 use Rattle.plan_laws.proofs.SameEdges.{is_active, each_edges}
 use Rattle.plan_laws.proofs.SameGroups.{are_groups}
@@ -32,16 +32,6 @@ use Rattle.plan_laws.proofs.SameChunks.{are_placed, is_split}
 use Rattle.plan_laws.proofs.SameScopes.{are_hoists}
 use Rattle.plan_laws.proofs.SameNames.{are_given, only_given}
 use Rattle.plan_laws.proofs.SameIds.{are_ids}
-
-same_used : (used others : Used) → used.names ≡ others.names → used.whole ≡ others.whole → used ≡ others
-same_used used others n w = grind arith
-
-same_ids : (ids others : Ids) → ids.modules ≡ others.modules → ids.chunks ≡ others.chunks → ids ≡ others
-same_ids ids others m c = grind arith
-
-same_plan : (plan other : Plan) → plan.used ≡ other.used → plan.active ≡ other.active → plan.groups ≡ other.groups → plan.chunks ≡ other.chunks
-    → plan.hoists ≡ other.hoists → plan.names ≡ other.names → plan.ids ≡ other.ids → plan ≡ other
-same_plan plan other u a g c h n i = grind arith
 
 module _ (graph : Graph) (fits : Fits graph) (bare : IsBare graph) (unflagged : All (λ row. row.flagged ≡ false) graph.rows) (plan : Plan) (planned : IsPlan graph plan) where
   pub is_general : IsGeneralPlan graph plan
@@ -96,4 +86,4 @@ module _ (graph : Graph) (fits : Fits graph) (bare : IsBare graph) (unflagged : 
         same_ids other.ids plan.ids (natural.module_ids ∙ sym is_general.ids.module_ids) (natural.chunk_ids ∙ sym is_general.ids.chunk_ids)
 
     pub one_plan : other ≡ plan
-    one_plan = same_plan other plan used_is active_is groups_are chunks_are hoists_are names_are ids_are
+    one_plan = same_plans other plan active_is used_is groups_are chunks_are hoists_are names_are ids_are

@@ -27,7 +27,7 @@ same_bools false false f g = refl
 same_active : (one two : Active) → one.edges ≡ two.edges → one.reached ≡ two.reached → one ≡ two
 same_active one two e r = grind arith
 
-same_used : (one two : Used) → one.names ≡ two.names → one.whole ≡ two.whole → one ≡ two
+pub same_used : (one two : Used) → one.names ≡ two.names → one.whole ≡ two.whole → one ≡ two
 same_used one two n w = grind arith
 
 same_groups : (one two : Groups) → one.targets ≡ two.targets → one.entries ≡ two.entries → one.closures ≡ two.closures → one.leads ≡ two.leads → one ≡ two
@@ -39,10 +39,10 @@ same_chunks one two m e l = grind arith
 same_hoists : (one two : Hoists) → one.root ≡ two.root → one.items ≡ two.items → one ≡ two
 same_hoists one two r i = grind arith
 
-same_ids : (one two : Ids) → one.modules ≡ two.modules → one.chunks ≡ two.chunks → one ≡ two
+pub same_ids : (one two : Ids) → one.modules ≡ two.modules → one.chunks ≡ two.chunks → one ≡ two
 same_ids one two m c = grind arith
 
-same_plans : (one two : Plan) → one.active ≡ two.active → one.used ≡ two.used → one.groups ≡ two.groups → one.chunks ≡ two.chunks → one.hoists ≡ two.hoists
+pub same_plans : (one two : Plan) → one.active ≡ two.active → one.used ≡ two.used → one.groups ≡ two.groups → one.chunks ≡ two.chunks → one.hoists ≡ two.hoists
     → one.names ≡ two.names → one.ids ≡ two.ids → one ≡ two
 same_plans one two a u g c h n i = grind arith
 
