@@ -10,19 +10,14 @@ asks another module each time and shows what caches hold: it grows with the grap
 What reading the graph takes for each module is printed too, the start of the program included.
 Run it as: python3 bench/exports.py
 """
-import os
 import random
-import subprocess
 import sys
-import tempfile
-from pathlib import Path
+
+from programs import Program
 
 CHAINS = [1_000, 2_000, 4_000, 8_000, 16_000]
 BARRELS = [1_000, 2_000, 5_000, 10_000]
 RUNS = 5
-TOP = Path(__file__).resolve().parent.parent
-CRATE = TOP / "crates/exports_run"
-PROGRAM = CRATE / "out/exports_run"
 
 
 def chain(count):
@@ -57,38 +52,6 @@ def all_names(count):
     return rows, [f"0.a{place:05}" for place in places], [f"binding 0 of {place}" for place in places]
 
 
-def build():
-    """Proves and builds the program where that has not been done."""
-    if not PROGRAM.exists():
-        command = ["rt", "run", "--", "--build-only"]
-        subprocess.run(command, cwd=CRATE, stdin=subprocess.DEVNULL, stdout=subprocess.DEVNULL, stderr=subprocess.DEVNULL)
-    if not PROGRAM.exists():
-        sys.exit("exports_run was not built")
-
-
-def once(rows, questions):
-    """Processor seconds of one run, and what it printed."""
-    with tempfile.TemporaryFile() as told, tempfile.TemporaryFile() as out:
-        told.write((" ".join(questions) + "\n" + "\n".join(rows) + "\n").encode())
-        told.seek(0)
-        child = subprocess.Popen([PROGRAM], stdin=told, stdout=out)
-        _, status, used = os.wait4(child.pid, 0)
-        out.seek(0)
-        if status:
-            sys.exit(f"exports_run ended with {status}")
-        return used.ru_utime + used.ru_stime, out.read().decode()
-
-
-def least(runs):
-    """The least seconds of each of these runs, which are taken in turn, and what each printed."""
-    seconds, printed = {}, {}
-    for _ in range(RUNS):
-        for name, (rows, questions) in runs.items():
-            spent, printed[name] = once(rows, questions)
-            seconds[name] = min(spent, seconds.get(name, spent))
-    return seconds, printed
-
-
 def measured(shape, sizes, asked, goes_through):
     """What asking takes above a question to the last module, what it takes in all, and what reading takes, in nanoseconds."""
     runs, wanted, parts = {}, {}, {}
@@ -99,10 +62,9 @@ def measured(shape, sizes, asked, goes_through):
         parts[count] = rounds * len(questions) * through
         wanted[count] = "".join(f"{question} is {one}\n" for question, one in zip(questions, found)) * rounds
         near = f"{len(rows) - 1}{questions[0][1]}x"
-        runs[count, "far"] = rows, questions * rounds
-        runs[count, "near"] = rows, [near] * (len(questions) * rounds)
-        runs[count, "none"] = rows, []
-    seconds, printed = least(runs)
+        for key, asking in (("far", questions * rounds), ("near", [near] * (len(questions) * rounds)), ("none", [])):
+            runs[count, key] = " ".join(asking) + "\n" + "\n".join(rows) + "\n"
+    seconds, printed = Program("exports_run").least(runs, RUNS)
     for count in sizes:
         if printed[count, "far"] != wanted[count]:
             sys.exit(f"a wrong answer in {shape.__name__} of {count}: {printed[count, 'far'][:80]}")
@@ -114,7 +76,6 @@ def measured(shape, sizes, asked, goes_through):
 
 
 def main():
-    build()
     for title, shape, sizes, asked, part in (
         ("a chain of stars", chain, CHAINS, 4_000_000, "module"),
         ("the last of a module's stars", stars, BARRELS, 4_000_000, "star"),

@@ -3,51 +3,19 @@
 
 Run it as: python3 bench/manifest.py
 """
-import os
-import subprocess
 import sys
-import tempfile
-from pathlib import Path
+
+from programs import Program
 
 SIZE = 4_194_304
 KEYS = (25_000, 50_000, 100_000)
 LOOKUPS = 200
 RUNS = 7
-TOP = Path(__file__).resolve().parent.parent
-CRATE = TOP / "crates/package_run"
-PROGRAM = CRATE / "out/package_run"
-
-
-def build():
-    """Proves and builds the program where that has not been done."""
-    if not PROGRAM.exists():
-        command = ["rt", "run", "--", "--build-only"]
-        subprocess.run(command, cwd=CRATE, stdin=subprocess.DEVNULL, stdout=subprocess.DEVNULL, stderr=subprocess.DEVNULL)
-    if not PROGRAM.exists():
-        sys.exit("package_run was not built")
-
-
-def once(lines):
-    """Processor seconds of one run on these lines, and what it printed."""
-    with tempfile.TemporaryFile() as told, tempfile.TemporaryFile() as out:
-        told.write(("\n".join(lines) + "\n").encode())
-        told.seek(0)
-        child = subprocess.Popen([PROGRAM], stdin=told, stdout=out)
-        _, status, used = os.wait4(child.pid, 0)
-        out.seek(0)
-        if status:
-            sys.exit(f"package_run ended with {status}")
-        return used.ru_utime + used.ru_stime, out.read().decode()
 
 
 def least(runs):
-    """The least seconds of each of these runs, which are taken in turn, and what each printed."""
-    seconds, printed = {}, {}
-    for _ in range(RUNS):
-        for name, lines in runs.items():
-            spent, printed[name] = once(lines)
-            seconds[name] = min(spent, seconds.get(name, spent))
-    return seconds, printed
+    """The least seconds of runs of package_run on each of these lists of lines, and what each printed."""
+    return Program("package_run").least({name: "\n".join(lines) + "\n" for name, lines in runs.items()}, RUNS)
 
 
 def exports(count, size):
@@ -122,7 +90,6 @@ def deep_paths():
 
 
 def main():
-    build()
     ratio = look_ups()
     long_parts()
     deep_paths()
