@@ -2,8 +2,8 @@
 // is what they answer.
 use crate::count_on_a_blank;
 use pk_base::{
-    Bytes, Call, Failed, FailsByNumber, Files, Interner, MemFiles, MemSink, MemSource, MemStore,
-    Path, Read, ReadFail, Sequence, Sink, Source, Store, Tree,
+    Call, Failed, FailsByNumber, Files, Interner, MemFiles, MemSink, MemSource, MemStore, Path,
+    Read, ReadFail, Sequence, Sink, Source, Store, Text, Tree,
 };
 use std::alloc::{AllocError, Global};
 use std::test::Fail;
@@ -20,7 +20,7 @@ fn tree(alloc: Global, files: &str) -> Result<Tree, AllocError> {
     let mut items = Vec::new(alloc);
     let mut words = files.as_bytes().split(|byte| *byte == b' ');
     while let (Some(at), Some(text)) = (words.next(), words.next()) {
-        items.push((path(alloc, at)?, Bytes::copy_of(alloc, text)?))?;
+        items.push((path(alloc, at)?, Text::from_slice(alloc, text)?))?;
     }
     Ok(Tree {
         files: Sequence::from_vec(items),
@@ -208,8 +208,8 @@ fn a_sink_holds_what_was_put(rt: HostRuntime) -> Result<(), Fail> {
 
 #[test]
 fn bytes_and_sequences_are_small_types(rt: HostRuntime) -> Result<(), Fail> {
-    let bytes = Bytes::copy_of(rt.alloc(), b"ab")?;
-    let same = Bytes::from_vec(Vec::from_slice(rt.alloc(), b"ab")?);
+    let bytes = Text::from_slice(rt.alloc(), b"ab")?;
+    let same = Text::from_vec(Vec::from_slice(rt.alloc(), b"ab")?);
     assert!(rt; bytes == same && bytes.len() == 2 && !bytes.is_empty());
     assert_eq!(rt; bytes.into_vec().len(), 2);
     let items = Sequence::from_vec(numbers(rt.alloc(), &[7, 8])?);

@@ -135,11 +135,13 @@ pub fn candidates_are_in_range()
         × ((chunk member : ℕ) → Contains candidate.chunks chunk → Contains candidate.modules member → Contains (chunk_at state chunk) member) }
 {}
 
-/// Each group has a list and each entry a chunk, and the numbers in lists are those of chunks. Each group finds what is placed in it in its
-/// chunks, which hold nothing outside its closure, and each chunk that is no entry chunk is in the list of a group and holds a module.
+/// Each group has a list, each entry an entry chunk, and the numbers in lists are those of chunks. Each group finds what is
+/// placed in it in its chunks, which hold nothing outside its closure. The modules of a chunk stand by number. A module in
+/// the entry chunk of one entry stands in that of every entry whose closure holds it. Each chunk that is no entry chunk is
+/// in the list of a group and holds a module.
 pub fn split_chunks_meet_the_clauses()
     ensures { (graph : Graph) (config : Option SplitConfig) (entries : ℕ) (closures placed : List (List ℕ)) (chunks : Chunks)
-        → FitTogether entries closures placed → IsSplit graph config entries placed chunks → MeetClauses closures placed chunks }
+        → FitTogether entries closures placed → IsSplit graph config entries placed chunks → MeetClauses entries closures placed chunks }
 {}
 
 /// A module of two groups gets a chunk of its own, which both load.
@@ -242,7 +244,7 @@ pub fn placed_modules_fit_together()
 /// Chunks that meet the clauses hold what is in the closure of an entry or an import target.
 pub fn chunks_hold_what_is_loaded()
     ensures { (graph : Graph) (active : Active) (groups : Groups) (placed : List (List ℕ)) (chunks : Chunks) → IsGroups graph active groups
-        → MeetClauses groups.closures placed chunks → (chunk member : ℕ) → IsInChunk chunks chunk member → IsInGroup graph active member }
+        → MeetClauses groups.entries groups.closures placed chunks → (chunk member : ℕ) → IsInChunk chunks chunk member → IsInGroup graph active member }
 {}
 
 /// Each candidate has a chunk that its modules move into.
@@ -266,7 +268,7 @@ pub fn split_chunks_of_a_graph_meet_the_clauses()
         → (placed : List (List ℕ)) → length placed ≡ length groups.targets
         → ((group : ℕ) (modules : List ℕ) → slice_get placed group ≡ Some modules → AreAll (IsPlaced groups group) modules)
         → (config : Option SplitConfig) (chunks : Chunks) → IsSplit graph config groups.entries placed chunks
-        → MeetClauses groups.closures placed chunks }
+        → MeetClauses groups.entries groups.closures placed chunks }
 {}
 
 /// And each set of modules that share a scope is then reached from its root inside the set.

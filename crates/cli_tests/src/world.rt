@@ -2,7 +2,7 @@
 ghost use Rattle.std.specs.Prelude.{◌≡◌, ◌<◌};
 
 use pack_cli::{Status, run};
-use pk_base::{Bytes, Call, MemFiles, MemSink, MemSource, MemStore, Path, Sequence, Steps, Tree};
+use pk_base::{Call, MemFiles, MemSink, MemSource, MemStore, Path, Sequence, Steps, Text, Tree};
 use std::alloc::{AllocError, Global};
 use std::marker::Brand;
 use std::sync::ledger::{Blank, Ledger};
@@ -20,7 +20,7 @@ fn tree(alloc: Global, files: &[(&str, &[u8])]) -> Result<Tree, AllocError> {
     let mut items = Vec::new(alloc);
     for (at, bytes) in files {
         if let Some(path) = Path::root(alloc).join(at.as_bytes())? {
-            items.push((path, Bytes::copy_of(alloc, *bytes)?))?;
+            items.push((path, Text::from_slice(alloc, *bytes)?))?;
         }
     }
     Ok(Tree {

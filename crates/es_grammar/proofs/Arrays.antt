@@ -22,7 +22,8 @@ use Rattle.es_tree.specs.declared.cycle.Primary.TheVariants as primary_v
 use Rattle.es_tree.specs.declared.cycle.Stmt.TheVariants as stmt_v
 use Rattle.es_tree.specs.declared.program.ProgramItem.{ProgramItem}
 use Rattle.es_tree.specs.declared.program.ProgramItem.TheVariants as program_item_v
-use Rattle.es_grammar.specs.Contexts.{Context, bracketed}
+use Rattle.es_grammar.specs.declared.places.Context.{Context}
+use Rattle.es_grammar.specs.Contexts.{bracketed}
 use Rattle.es_grammar.specs.Reading.{Bytes, KindAt, MarkAt}
 use Rattle.es_grammar.specs.Semicolons.{stop, expression, SemiAt, IsClosed, IsClosedItem}
 use Rattle.es_grammar.specs.Rules.{Rules}

@@ -22,7 +22,7 @@ use Rattle.es_grammar.specs.Lists.{Chain, SomeAt, ListAt, ElementsAt, EndedListA
 use Rattle.es_grammar.specs.Semicolons.{SemiAt}
 use Rattle.es_grammar.specs.Functions.{ClosedItemAt, BodyAt, AsyncAt, ArrowParamsAt, ArrowAt}
 use Rattle.es_grammar.specs.Expressions.{ExprAt, ClosedExprAt, PiecesAt, TemplateAt, ArgumentAt, ArgsAt, SuffixAt, PrimaryAt, BaseAt, LHSAt, CalleeAt, NewAt}
-use Rattle.es_grammar.specs.Targets.{SimpleTargetAt, TargetAt}
+use Rattle.es_grammar.specs.Targets.{ChainedMarkAt, ParenthesisedAt, TargetNameAt, SimpleTargetAt, TargetAt}
 use Rattle.es_grammar.specs.Operators.{OperandAt, PrefixedAt, OperatorAt, ListedAt, JoinedAt, BinaryAt, CondAt, AssignAt}
 use Rattle.es_grammar.specs.Statements.{StmtAt, ItemAt}
 use Rattle.es_grammar.specs.Modules.{ScriptItemAt}
@@ -689,4 +689,84 @@ regex_parses = record {
       (no_mark (end_at 11) regex_11_operator refl (end_at 11)) refl)))) (closed_item (end_at 11) regex_11 refl refl refl refl))) Chain.none;
   end = end_at 11;
   is_end = kinded regex_11 refl;
+}
+
+-- a target in two pairs of parentheses
+abbrev paired_text : Bytes
+paired_text = codes "((a)) = 1;"
+
+abbrev paired_tree : Program
+paired_tree = record {
+  goal = Script;
+  items =
+      (program_item_v.Item (item_v.Stmt (stmt_v.Expr (record {
+        list = separated (assign_v.Set (target_v.ParenName (record {
+          opened = (mark 0 1) ∷ (mark 1 2) ∷ [];
+          item = (word 2 3);
+          closed = (mark 3 4) ∷ (mark 4 5) ∷ [];
+        })) (mark 6 7)
+            (assign_v.Cond (roll-Cond (record {
+              test = (record {
+                first = (operand_v.LHS (roll-LHS (record { base = (base_v.Primary (primary_v.Literal (number 8 9))); suffixes = [] })));
+                more = [];
+              });
+              arms = None;
+            })))) None ∷ [];
+      }) (Some (mark 9 10)))))
+      ∷ [];
+}
+
+paired_0 : IsAt paired_text Operand 0 (mark 0 1)
+unfolding lexing
+paired_0 = refl
+
+paired_1 : IsAt paired_text Operand 1 (mark 1 2)
+unfolding lexing
+paired_1 = refl
+
+paired_2 : IsAt paired_text Operand 2 (word 2 3)
+unfolding lexing
+paired_2 = refl
+
+paired_3_operator : IsAt paired_text Operator 3 (mark 3 4)
+unfolding lexing
+paired_3_operator = refl
+
+paired_4_operator : IsAt paired_text Operator 4 (mark 4 5)
+unfolding lexing
+paired_4_operator = refl
+
+paired_6_operator : IsAt paired_text Operator 5 (mark 6 7)
+unfolding lexing
+paired_6_operator = refl
+
+paired_8 : IsAt paired_text Operand 7 (number 8 9)
+unfolding lexing
+paired_8 = refl
+
+paired_9_operator : IsAt paired_text Operator 9 (mark 9 10)
+unfolding lexing
+paired_9_operator = refl
+
+paired_10 : IsAt paired_text Operand 10 (end_at 10)
+unfolding lexing
+paired_10 = refl
+
+paired_parses : Parses paired_text paired_tree
+unfolding spelling
+paired_parses = record {
+  last = 10;
+  items =
+      Chain.more _ _ (ScriptItemAt.item _ (ClosedItemAt.closed _ (item_up 255 (ItemAt.stmt _ (StmtAt.expr _ _ (no_mark (mark 0 1) paired_0
+      refl) (no_declaration (mark 0 1) paired_0 refl refl refl) (ExprAt.expr _ (EndedListAt.last _ (assign_up 254 (AssignAt.set _ (mark 6 7)
+      _ (TargetAt.simple _ (SimpleTargetAt.paren_name _ (ParenthesisedAt.parenthesised (mark 0 1) _ _ _ (marked paired_0 refl refl)
+      (Chain.more _ _ (ChainedMarkAt.mark (mark 1 2) (marked paired_1 refl refl)) Chain.none) (TargetNameAt.name (word 2 3) (named paired_2 refl
+      refl)) (Chain.more _ _ (ChainedMarkAt.mark (mark 3 4) (marked paired_3_operator refl refl)) (Chain.more _ _ (ChainedMarkAt.mark (mark 4 5)
+      (marked paired_4_operator refl refl)) Chain.none)) refl))) (marked paired_6_operator refl refl) (assign_up 253
+      (AssignAt.cond _ (CondAt.test _ (BinaryAt.binary _ _ (ListedAt.operand _ (OperandAt.lhs _ (LHSAt.base _ _ (BaseAt.primary _
+      (PrimaryAt.number (number 8 9) (kinded paired_8 refl))) Chain.none refl))) JoinedAt.none (fits_lhs _) tt refl)))))))) (record { next =
+      (mark 9 10); read = paired_9_operator; closed = refl }) (SemiAt.written (mark 9 10) (marked paired_9_operator refl refl)))))
+      (closed_item (end_at 10) paired_10 refl refl refl refl))) Chain.none;
+  end = end_at 10;
+  is_end = kinded paired_10 refl;
 }

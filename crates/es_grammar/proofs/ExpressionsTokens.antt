@@ -15,9 +15,9 @@ use Rattle.es_tree.specs.declared.cycle.Primary.{Primary}
 use Rattle.es_tree.specs.declared.cycle.Base.{Base}
 use Rattle.es_tree.specs.declared.cycle.Base.TheVariants as base_v
 use Rattle.es_tree.specs.Yield.{one, opt, listed, argument_tokens, second_argument_tokens, piece_tokens, template_tokens, assign_tokens, lhs_tokens, member_tokens, primary_tokens, base_tokens, expr_tokens, args_tokens, suffix_tokens}
-use Rattle.es_grammar.specs.Contexts.{Context}
+use Rattle.es_grammar.specs.declared.places.Context.{Context}
 use Rattle.es_grammar.specs.Reading.{Bytes}
-use Rattle.es_grammar.specs.Semicolons.{Stop}
+use Rattle.es_grammar.specs.declared.places.Stop.{Stop}
 use Rattle.es_grammar.specs.Rules.{Rules}
 use Rattle.es_grammar.specs.Expressions.{Expr, ExprAt, ClosedExprAt, PiecesAt, TemplateAt, ArgumentAt, ArgsAt, SuffixAt, MemberAt, PrimaryAt, SecondArgumentAt, CommaAt, BaseAt, ImportCallAt, LHSAt, CalleeAt, NewAt}
 use Rattle.es_grammar.specs.Tokens.{TokensAt}

@@ -21,9 +21,9 @@ use Rattle.es_tree.specs.declared.cycle.Arrow.{Arrow}
 use Rattle.es_tree.specs.declared.cycle.LHS.{LHS}
 use Rattle.es_tree.specs.declared.cycle.Bind.TheVariants as bind
 use Rattle.es_tree.specs.Yield.{one, opt, initializer_tokens, body_tokens, extends_tokens, arrow_params_tokens, property_key_tokens, item_tokens, decl_tokens, func_tokens, params_tokens, class_tokens, element_tokens, method_tokens, bind_property_tokens, bind_tokens, assign_tokens, arrow_tokens, lhs_tokens, key_tokens}
-use Rattle.es_grammar.specs.Contexts.{Context}
+use Rattle.es_grammar.specs.declared.places.Context.{Context}
 use Rattle.es_grammar.specs.Reading.{Bytes}
-use Rattle.es_grammar.specs.Semicolons.{Stop}
+use Rattle.es_grammar.specs.declared.places.Stop.{Stop}
 use Rattle.es_grammar.specs.Rules.{Rules}
 use Rattle.es_grammar.specs.Functions.{InitializerAt, BindAt, DeclAt, PartAt, KeyAt, ElementKeyAt, PropertyKeyAt, BindPropertyAt, NameBindAt, BindPatternAt, ParamsAt, ClosedItemAt, BodyAt, AsyncAt, StarAt, OptionalNameAt, FuncAt, MethodAt, ArrowParamsAt, ArrowAt, StaticAt, ElementAt, HeritageAt, ClassAt}
 use Rattle.es_grammar.specs.Tokens.{TokensAt}

@@ -6,6 +6,7 @@ use Rattle.es_tree.specs.declared.tokens.ProgramGoal.TheVariants.{Script, Module
 use Rattle.es_tree.specs.declared.parts.Separated.{Separated}
 use Rattle.es_tree.specs.declared.parts.Initializer.{Initializer}
 use Rattle.es_tree.specs.declared.parts.Rest.{Rest}
+use Rattle.es_tree.specs.declared.parts.Parenthesised.{Parenthesised}
 use Rattle.es_tree.specs.declared.parts.Body.{Body}
 use Rattle.es_tree.specs.declared.parts.Else.{Else}
 use Rattle.es_tree.specs.declared.parts.CatchParameter.{CatchParameter}
@@ -49,14 +50,14 @@ use Rattle.es_tree.specs.declared.cycle.Primary.{Primary}
 use Rattle.es_tree.specs.declared.cycle.Base.{Base}
 use Rattle.es_tree.specs.declared.program.Export.{Export}
 use Rattle.es_tree.specs.declared.program.ProgramItem.{ProgramItem}
-use Rattle.es_grammar.specs.Contexts.{Context}
+use Rattle.es_grammar.specs.declared.places.Context.{Context}
 use Rattle.es_grammar.specs.Reading.{Bytes}
-use Rattle.es_grammar.specs.Semicolons.{Stop}
+use Rattle.es_grammar.specs.declared.places.Stop.{Stop}
 use Rattle.es_grammar.specs.Rules.{Rules}
 use Rattle.es_grammar.specs.Lists.{Chain, SomeAt, ListAt, EachAt, EndedListAt, ElementsAt, EachElementAt}
 use Rattle.es_grammar.specs.Functions.{InitializerAt, BindAt, DeclAt, PartAt, RestAt, KeyAt, ElementKeyAt, PropertyKeyAt, BindPropertyAt, BindPatternAt, ParamsAt, ClosedItemAt, BodyAt, FuncAt, MethodAt, ArrowParamsAt, ArrowAt, ElementAt, HeritageAt, ClassAt}
 use Rattle.es_grammar.specs.Expressions.{Expr, ExprAt, ClosedExprAt, PiecesAt, TemplateAt, ArgumentAt, ArgsAt, SuffixAt, MemberAt, PrimaryAt, SecondArgumentAt, BaseAt, ImportCallAt, LHSAt, CalleeAt, NewAt}
-use Rattle.es_grammar.specs.Targets.{SimpleTargetAt, TargetAt, TargetElementAt, TargetPropertyAt, TargetPatternAt}
+use Rattle.es_grammar.specs.Targets.{ParenthesisedAt, TargetMemberAt, SimpleTargetAt, TargetAt, TargetElementAt, TargetPropertyAt, TargetPatternAt}
 use Rattle.es_grammar.specs.Operators.{OperandAt, PrefixedAt, ListedAt, JoinedAt, BinaryAt, CondAt, YieldedAt, AssignAt}
 use Rattle.es_grammar.specs.Statements.{DeclaredAt, Lex, Var, LexAt, VarAt, InitAt, OptionalInitAt, OptionalExprAt, HeadAt, ForAt, CaseAt, CasesAt, ElseAt, ExprOnLineAt, CatchParameterAt, FinallyAt, OptionalFinallyAt, StmtAt, ItemAt}
 use Rattle.es_grammar.specs.Modules.{ExportAt, ModuleItemAt, ScriptItemAt}
@@ -319,11 +320,22 @@ pub new_grows : {text : Bytes} {r s : Rules} {c : Context} {i : ℕ} {j : Base} 
 new_grows g (NewAt.with_args word x args h1 h2 h3) = NewAt.with_args word x args h1 (callee_grows g h2) (args_grows g h3)
 new_grows g (NewAt.without word x h1 h2 h3) = NewAt.without word x h1 (callee_grows g h2) h3
 
+pub parenthesised_maps : {X : Type 0} {text : Bytes} {A B : ℕ → X → ℕ → Type 0} {p : ℕ} {x : Parenthesised X} {q : ℕ} → ParenthesisedAt text A p x q
+    → ((p : ℕ) (x : X) (q : ℕ) → A p x q → B p x q) → ParenthesisedAt text B p x q
+parenthesised_maps (ParenthesisedAt.parenthesised left more x closed h1 h2 h3 h4 same) part =
+    ParenthesisedAt.parenthesised left more x closed h1 h2 (part _ x _ h3) h4 same
+
+pub target_member_grows : {text : Bytes} {r s : Rules} {c : Context} {i : ℕ} {j : LHS} {k : ℕ} → Grows r s → TargetMemberAt text r c i j k
+    → TargetMemberAt text s c i j k
+target_member_grows g (TargetMemberAt.member x h1 h2) = TargetMemberAt.member x (lhs_grows g h1) h2
+
 pub simple_target_grows : {text : Bytes} {r s : Rules} {c : Context} {i : ℕ} {j : Target} {k : ℕ} → Grows r s → SimpleTargetAt text r c i j k
     → SimpleTargetAt text s c i j k
 simple_target_grows g (SimpleTargetAt.name token h1) = SimpleTargetAt.name token h1
 simple_target_grows g (SimpleTargetAt.member x h1 h2) = SimpleTargetAt.member x (lhs_grows g h1) h2
-simple_target_grows g (SimpleTargetAt.paren left x right h1 h2 h3) = SimpleTargetAt.paren left x right h1 (simple_target_grows g h2) h3
+simple_target_grows g (SimpleTargetAt.paren_name x h1) = SimpleTargetAt.paren_name x h1
+simple_target_grows g (SimpleTargetAt.paren_member x h1) =
+    SimpleTargetAt.paren_member x (parenthesised_maps h1 (λ p x q h. target_member_grows g h))
 
 pub target_grows : {text : Bytes} {r s : Rules} {c : Context} {i : ℕ} {j : Target} {k : ℕ} → Grows r s → TargetAt text r c i j k
     → TargetAt text s c i j k
@@ -511,10 +523,12 @@ item_grows g (ItemAt.class x h1) = ItemAt.class x (class_grows g h1)
 
 pub export_grows : {text : Bytes} {r s : Rules} {c : Context} {i : ℕ} {j : Export} {k : ℕ} → Grows r s → ExportAt text r c i j k
     → ExportAt text s c i j k
-export_grows g (ExportAt.all word star from_word request semi h1 h2 h3 h4 h5) = ExportAt.all word star from_word request semi h1 h2 h3 h4 h5
-export_grows g (ExportAt.space word star as_word name from_word request semi h1 h2 h3 h4 h5 h6 h7) =
-    ExportAt.space word star as_word name from_word request semi h1 h2 h3 h4 h5 h6 h7
-export_grows g (ExportAt.from word x from_word request semi h1 h2 h3 h4 h5) = ExportAt.from word x from_word request semi h1 h2 h3 h4 h5
+export_grows g (ExportAt.all word star from_word request attributes semi h1 h2 h3 h4 h5 h6) =
+    ExportAt.all word star from_word request attributes semi h1 h2 h3 h4 h5 h6
+export_grows g (ExportAt.space word star as_word name from_word request attributes semi h1 h2 h3 h4 h5 h6 h7 h8) =
+    ExportAt.space word star as_word name from_word request attributes semi h1 h2 h3 h4 h5 h6 h7 h8
+export_grows g (ExportAt.from word x from_word request attributes semi h1 h2 h3 h4 h5 h6) =
+    ExportAt.from word x from_word request attributes semi h1 h2 h3 h4 h5 h6
 export_grows g (ExportAt.names word x semi h1 h2 h3) = ExportAt.names word x semi h1 h2 h3
 export_grows g (ExportAt.var word x h1 h2) = ExportAt.var word x h1 (var_grows g h2)
 export_grows g (ExportAt.lex word x h1 h2) = ExportAt.lex word x h1 (lex_grows g h2)

@@ -5,6 +5,7 @@ use Rattle.es_tree.specs.declared.tokens.Token.{Token}
 use Rattle.es_tree.specs.declared.parts.Separated.{Separated}
 use Rattle.es_tree.specs.declared.parts.Initializer.{Initializer}
 use Rattle.es_tree.specs.declared.parts.Rest.{Rest}
+use Rattle.es_tree.specs.declared.parts.Parenthesised.{Parenthesised}
 use Rattle.es_tree.specs.declared.parts.Body.{Body}
 use Rattle.es_tree.specs.declared.parts.Else.{Else}
 use Rattle.es_tree.specs.declared.parts.CatchParameter.{CatchParameter}
@@ -68,7 +69,7 @@ use Rattle.es_tree.specs.declared.cycle.Operand.TheVariants as operand_v
 use Rattle.es_tree.specs.declared.cycle.Primary.TheVariants as primary_v
 use Rattle.es_tree.specs.declared.cycle.Stmt.TheVariants as stmt_v
 use Rattle.es_tree.specs.declared.cycle.Target.TheVariants as target_v
-use Rattle.es_tree.specs.Yield.{Tokens, one, opt, inner, listed, separated_tokens, initializer_tokens, rest_tokens, body_tokens, else_tokens, catch_parameter_tokens, finally_tokens, extends_tokens, argument_tokens, arms_tokens, yielded_tokens, second_argument_tokens, template_tokens, arrow_params_tokens, lex_tokens, var_tokens, key_tokens, expr_tokens, args_tokens, suffix_tokens, binary_tokens, property_key_tokens, suffix_of_tokens, arrow_tokens, assign_tokens, base_tokens, bind_tokens, case_tokens, element_tokens, for_tokens, head_tokens, init_tokens, item_tokens, member_tokens, method_tokens, operand_tokens, primary_tokens, stmt_tokens, target_tokens, bind_property_tokens, class_tokens, cond_tokens, decl_tokens, func_tokens, lhs_tokens, params_tokens, target_part_tokens}
+use Rattle.es_tree.specs.Yield.{Tokens, one, opt, inner, listed, separated_tokens, initializer_tokens, rest_tokens, parenthesised_tokens, body_tokens, else_tokens, catch_parameter_tokens, finally_tokens, extends_tokens, argument_tokens, arms_tokens, yielded_tokens, second_argument_tokens, template_tokens, arrow_params_tokens, lex_tokens, var_tokens, key_tokens, expr_tokens, args_tokens, suffix_tokens, binary_tokens, property_key_tokens, suffix_of_tokens, arrow_tokens, assign_tokens, base_tokens, bind_tokens, case_tokens, element_tokens, for_tokens, head_tokens, init_tokens, item_tokens, member_tokens, method_tokens, operand_tokens, primary_tokens, stmt_tokens, target_tokens, bind_property_tokens, class_tokens, cond_tokens, decl_tokens, func_tokens, lhs_tokens, params_tokens, target_part_tokens}
 use Rattle.es_grammar.proofs.Joins.{ap₃, listed_map, separated_over, joined_over, arguments_over, optional_over, pieces_over}
 use Rattle.es_grammar.proofs.Opens.{item_mapped, item_opens, decl_mapped, decl_opens, case_mapped, case_opens, stmt_mapped, stmt_opens, init_mapped, init_opens, for_mapped, for_opens, head_mapped, head_opens, func_mapped, func_opens, params_mapped, params_opens, class_mapped, class_opens, element_mapped, element_opens, method_mapped, method_opens, bind_property_mapped, bind_property_opens, bind_mapped, bind_opens, target_mapped, target_opens, target_part_mapped, target_part_opens, assign_mapped, assign_opens, arrow_mapped, arrow_opens, cond_mapped, cond_opens, operand_mapped, operand_opens, lhs_mapped, lhs_opens, member_mapped, member_opens, primary_mapped, primary_opens, base_mapped, base_opens}
 
@@ -448,11 +449,17 @@ target_at-Member member = refl
 pub target-Member : (member : LHS) → target_tokens (target_v.Member member) ≡ lhs_tokens member
 target-Member member = target_opens (target_v.Member member) ∙ ap target_mapped (target_v.outs-Member member) ∙ target_at-Member member
 
-target_at-Paren : (left : Token) (target : Target) (right : Token) → target_mapped (Target-F.Target::Paren left target right) ≡ one left ++ target_tokens target ++ one right
-target_at-Paren left target right = refl
+target_at-ParenName : (name : Parenthesised Token) → target_mapped (Target-F.ParenName name) ≡ parenthesised_tokens one name
+target_at-ParenName name = refl
 
-pub target-Paren : (left : Token) (target : Target) (right : Token) → target_tokens (target_v.Paren left target right) ≡ one left ++ target_tokens target ++ one right
-target-Paren left target right = target_opens (target_v.Paren left target right) ∙ ap target_mapped (target_v.outs-Paren left target right) ∙ target_at-Paren left target right
+pub target-ParenName : (name : Parenthesised Token) → target_tokens (target_v.ParenName name) ≡ parenthesised_tokens one name
+target-ParenName name = target_opens (target_v.ParenName name) ∙ ap target_mapped (target_v.outs-ParenName name) ∙ target_at-ParenName name
+
+target_at-ParenMember : (member : Parenthesised LHS) → target_mapped (Target-F.ParenMember member) ≡ parenthesised_tokens lhs_tokens member
+target_at-ParenMember member = refl
+
+pub target-ParenMember : (member : Parenthesised LHS) → target_tokens (target_v.ParenMember member) ≡ parenthesised_tokens lhs_tokens member
+target-ParenMember member = target_opens (target_v.ParenMember member) ∙ ap target_mapped (target_v.outs-ParenMember member) ∙ target_at-ParenMember member
 
 target_at-Array : (left : Token) (elements : List (Separated (Option TargetPart))) (rest : Option (Rest Target)) (right : Token) → target_mapped (Target-F.Target::Array left elements rest right) ≡ one left ++ listed (separated_tokens (opt target_part_tokens)) elements ++ opt (rest_tokens target_tokens) rest ++ one right
 target_at-Array left elements None right = ap (λ t0. one left ++ t0 ++ [] ++ one right) (optional_over (target_over left) inner target_part_tokens refl (λ x. refl) elements)
@@ -665,7 +672,7 @@ primary_at-Class class = refl
 pub primary-Class : (class : Class) → primary_tokens (primary_v.Class class) ≡ class_tokens class
 primary-Class class = primary_opens (primary_v.Class class) ∙ ap primary_mapped (primary_v.outs-Class class) ∙ primary_at-Class class
 
-primary_at-Paren : (left : Token) (expr : ExprOf Assign) (right : Token) → primary_mapped (Primary-F.Primary::Paren left expr right) ≡ one left ++ expr_tokens expr ++ one right
+primary_at-Paren : (left : Token) (expr : ExprOf Assign) (right : Token) → primary_mapped (Primary-F.Paren left expr right) ≡ one left ++ expr_tokens expr ++ one right
 primary_at-Paren left expr right = ap (λ t0. one left ++ t0 ++ one right) (separated_over assign_tokens expr.list)
 
 pub primary-Paren : (left : Token) (expr : ExprOf Assign) (right : Token) → primary_tokens (primary_v.Paren left expr right) ≡ one left ++ expr_tokens expr ++ one right

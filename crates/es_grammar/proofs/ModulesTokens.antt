@@ -4,17 +4,20 @@ use Rattle.es_tree.specs.declared.program.Space.{Space}
 use Rattle.es_tree.specs.declared.program.ImportName.{ImportName}
 use Rattle.es_tree.specs.declared.program.Named.{Named}
 use Rattle.es_tree.specs.declared.program.Clause.{Clause}
+use Rattle.es_tree.specs.declared.program.Attribute.{Attribute}
+use Rattle.es_tree.specs.declared.program.With.{With}
 use Rattle.es_tree.specs.declared.program.Import.{Import}
 use Rattle.es_tree.specs.declared.program.Renamed.{Renamed}
 use Rattle.es_tree.specs.declared.program.ExportName.{ExportName}
 use Rattle.es_tree.specs.declared.program.Names.{Names}
 use Rattle.es_tree.specs.declared.program.Export.{Export}
 use Rattle.es_tree.specs.declared.program.ProgramItem.{ProgramItem}
-use Rattle.es_tree.specs.Yield.{opt, space_tokens, import_name_tokens, named_tokens, clause_tokens, import_tokens, renamed_tokens, export_name_tokens, names_tokens, export_tokens, program_item_tokens}
-use Rattle.es_grammar.specs.Contexts.{Context}
+use Rattle.es_tree.specs.Yield.{opt, space_tokens, import_name_tokens, named_tokens, clause_tokens, attribute_tokens, with_tokens, import_tokens, renamed_tokens, export_name_tokens, names_tokens, export_tokens, program_item_tokens}
+use Rattle.es_grammar.specs.declared.places.Context.{Context}
 use Rattle.es_grammar.specs.Reading.{Bytes}
+use Rattle.es_grammar.specs.declared.places.Stop.{Stop}
 use Rattle.es_grammar.specs.Rules.{Rules}
-use Rattle.es_grammar.specs.Modules.{SpaceAt, ImportNameAt, NamedAt, ClauseAt, ImportAt, RenamedAt, ExportNameAt, LocalNameAt, NamesAt, ExportAt, ModuleItemAt, ScriptItemAt}
+use Rattle.es_grammar.specs.Modules.{SpaceAt, ImportNameAt, NamedAt, ClauseAt, AttributeAt, WithAt, OptionalWithAt, ImportAt, RenamedAt, ExportNameAt, LocalNameAt, NamesAt, ExportAt, ModuleItemAt, ScriptItemAt}
 use Rattle.es_grammar.specs.Tokens.{TokensAt}
 use Rattle.es_grammar.proofs.Standing.{nothing, kind_at, mark_at, word_at, name_at, semi_stands, Stands, list_stands, ◌▹◌}
 use Rattle.es_grammar.proofs.Tells.{Tells}
@@ -39,9 +42,23 @@ clause_stands (ClauseAt.named x h1) = named_stands h1
 clause_stands (ClauseAt.name_space token comma x h1 h2 h3) = name_at h1 ▹ mark_at h2 ▹ space_stands h3
 clause_stands (ClauseAt.name_named token comma x h1 h2 h3) = name_at h1 ▹ mark_at h2 ▹ named_stands h3
 
+pub attribute_stands : {text : Bytes} {p : ℕ} {x : Attribute} {q : ℕ} → AttributeAt text p x q → TokensAt text p (attribute_tokens x) q
+attribute_stands (AttributeAt.word key colon value h1 h2 h3) = kind_at h1 ▹ mark_at h2 ▹ kind_at h3
+attribute_stands (AttributeAt.string key colon value h1 h2 h3) = kind_at h1 ▹ mark_at h2 ▹ kind_at h3
+
+pub with_stands : {text : Bytes} {p : ℕ} {x : With} {q : ℕ} → WithAt text p x q → TokensAt text p (with_tokens x) q
+with_stands (WithAt.with word left xs right h1 h2 h3 h4) =
+    word_at h1 ▹ mark_at h2 ▹ list_stands attribute_tokens h3 (λ p x q h. attribute_stands h) ▹ mark_at h4
+
+pub optional_with_stands : {text : Bytes} {p : ℕ} {x : Option With} {s : Stop} → OptionalWithAt text p x s
+    → TokensAt text p (opt with_tokens x) s.at
+optional_with_stands OptionalWithAt.none = nothing
+optional_with_stands (OptionalWithAt.some x h1) = with_stands h1
+
 pub import_stands : {text : Bytes} {c : Context} {p : ℕ} {x : Import} {q : ℕ} → ImportAt text c p x q → TokensAt text p (import_tokens x) q
-import_stands (ImportAt.bare word request semi h1 h2 h3) = word_at h1 ▹ kind_at h2 ▹ semi_stands h3
-import_stands (ImportAt.from word x from_word request semi h1 h2 h3 h4 h5) = word_at h1 ▹ clause_stands h2 ▹ word_at h3 ▹ kind_at h4 ▹ semi_stands h5
+import_stands (ImportAt.bare word request attributes semi h1 h2 h3 h4) = word_at h1 ▹ kind_at h2 ▹ optional_with_stands h3 ▹ semi_stands h4
+import_stands (ImportAt.from word x from_word request attributes semi h1 h2 h3 h4 h5 h6) =
+    word_at h1 ▹ clause_stands h2 ▹ word_at h3 ▹ kind_at h4 ▹ optional_with_stands h5 ▹ semi_stands h6
 
 pub renamed_stands : {text : Bytes} {p : ℕ} {x : Option Renamed} {q : ℕ} → RenamedAt text p x q → TokensAt text p (opt renamed_tokens x) q
 renamed_stands RenamedAt.none = nothing
@@ -60,11 +77,12 @@ names_stands (NamesAt.names left xs right h1 h2 h3) part = mark_at h1 ▹ list_s
 
 pub export_stands : {text : Bytes} {r : Rules} {c : Context} {p : ℕ} {x : Export} {q : ℕ} (t : Tells text r) → ExportAt text r c p x q
     → TokensAt text p (export_tokens x) q
-export_stands t (ExportAt.all word star from_word request semi h1 h2 h3 h4 h5) = word_at h1 ▹ mark_at h2 ▹ word_at h3 ▹ kind_at h4 ▹ semi_stands h5
-export_stands t (ExportAt.space word star as_word name from_word request semi h1 h2 h3 h4 h5 h6 h7) =
-    word_at h1 ▹ mark_at h2 ▹ word_at h3 ▹ kind_at h4 ▹ word_at h5 ▹ kind_at h6 ▹ semi_stands h7
-export_stands t (ExportAt.from word x from_word request semi h1 h2 h3 h4 h5) =
-    word_at h1 ▹ names_stands h2 (λ p x q h. export_name_stands h) ▹ word_at h3 ▹ kind_at h4 ▹ semi_stands h5
+export_stands t (ExportAt.all word star from_word request attributes semi h1 h2 h3 h4 h5 h6) =
+    word_at h1 ▹ mark_at h2 ▹ word_at h3 ▹ kind_at h4 ▹ optional_with_stands h5 ▹ semi_stands h6
+export_stands t (ExportAt.space word star as_word name from_word request attributes semi h1 h2 h3 h4 h5 h6 h7 h8) =
+    word_at h1 ▹ mark_at h2 ▹ word_at h3 ▹ kind_at h4 ▹ word_at h5 ▹ kind_at h6 ▹ optional_with_stands h7 ▹ semi_stands h8
+export_stands t (ExportAt.from word x from_word request attributes semi h1 h2 h3 h4 h5 h6) =
+    word_at h1 ▹ names_stands h2 (λ p x q h. export_name_stands h) ▹ word_at h3 ▹ kind_at h4 ▹ optional_with_stands h5 ▹ semi_stands h6
 export_stands t (ExportAt.names word x semi h1 h2 h3) = word_at h1 ▹ names_stands h2 (λ p x q h. local_name_stands h) ▹ semi_stands h3
 export_stands t (ExportAt.var word x h1 h2) = word_at h1 ▹ var_stands t h2
 export_stands t (ExportAt.lex word x h1 h2) = word_at h1 ▹ lex_stands t h2

@@ -37,14 +37,15 @@ use Rattle.es_tree.specs.declared.program.ProgramItem.{ProgramItem}
 use Rattle.es_tree.specs.declared.tokens.ProgramGoal.{ProgramGoal}
 use Rattle.es_tree.specs.declared.tokens.ProgramGoal.TheVariants.{Script, Module}
 use Rattle.es_tree.specs.declared.tokens.TokenKind.TheVariants.{End}
-use Rattle.es_grammar.specs.Contexts.{Context, bracketed}
+use Rattle.es_grammar.specs.declared.places.Context.{Context}
+use Rattle.es_grammar.specs.Contexts.{bracketed}
 use Rattle.es_grammar.specs.Reading.{Bytes, spelled, IsAt, KindAt, MarkAt, OneOfMarksAt, WordAt, OneOfWordsAt, NameAt}
-use Rattle.es_grammar.specs.Semicolons.{Stop}
+use Rattle.es_grammar.specs.declared.places.Stop.{Stop}
 use Rattle.es_grammar.specs.Rules.{Rules}
 use Rattle.es_grammar.specs.Lists.{Chain, ElementsAt, EachElementAt, EndedListAt}
 use Rattle.es_grammar.specs.Functions.{RestAt, ClosedItemAt, BodyAt, AsyncAt, FuncAt, ArrowParamsAt, ArrowAt, ClassAt}
 use Rattle.es_grammar.specs.Expressions.{Expr, ExprAt, TemplateAt, ArgumentAt, PrimaryAt, BaseAt, ImportCallAt, LHSAt, NewAt}
-use Rattle.es_grammar.specs.Targets.{SimpleTargetAt, TargetAt, TargetElementAt, TargetPatternAt}
+use Rattle.es_grammar.specs.Targets.{ParenthesisedAt, SimpleTargetAt, TargetAt, TargetElementAt, TargetPatternAt}
 use Rattle.es_grammar.specs.Operators.{prefix_marks, update_marks, OperandAt, PrefixedAt, ListedAt, BinaryAt, CondAt, AssignAt}
 use Rattle.es_grammar.specs.Statements.{LexicalAt, Lex, Var, LexAt, VarAt, ForAt, StmtAt, ItemAt}
 use Rattle.es_grammar.specs.Modules.{ImportAt, ExportAt, ModuleItemAt, ScriptItemAt}
@@ -185,7 +186,8 @@ lhs_no b (LHSAt.super _ _ _ h _ _ _) = not_word b.here h
 simple_target_no : {text : Bytes} {r : Rules} {c : Context} {p : ℕ} {x : Target} {q : ℕ} → Hard text r p → SimpleTargetAt text r c p x q → ⊥
 simple_target_no b (SimpleTargetAt.name _ h) = not_name b.here h
 simple_target_no b (SimpleTargetAt.member _ h _) = lhs_no b h
-simple_target_no b (SimpleTargetAt.paren _ _ _ h _ _) = not_mark b.here refl h
+simple_target_no b (SimpleTargetAt.paren_name _ (ParenthesisedAt.parenthesised _ _ _ _ h _ _ _ _)) = not_mark b.here refl h
+simple_target_no b (SimpleTargetAt.paren_member _ (ParenthesisedAt.parenthesised _ _ _ _ h _ _ _ _)) = not_mark b.here refl h
 
 target_no : {text : Bytes} {r : Rules} {c : Context} {p : ℕ} {x : Target} {q : ℕ} → Hard text r p → TargetAt text r c p x q → ⊥
 target_no b (TargetAt.simple _ h) = simple_target_no b h
@@ -306,13 +308,13 @@ item_no b no_assign (ItemAt.func _ h) = func_no b h
 item_no b no_assign (ItemAt.class _ h) = class_no b h
 
 import_no : {text : Bytes} {c : Context} {p : ℕ} {x : Import} {q : ℕ} → Bracket text p → ImportAt text c p x q → ⊥
-import_no b (ImportAt.bare _ _ _ h _ _) = not_word b h
-import_no b (ImportAt.from _ _ _ _ _ h _ _ _ _) = not_word b h
+import_no b (ImportAt.bare _ _ _ _ h _ _ _) = not_word b h
+import_no b (ImportAt.from _ _ _ _ _ _ h _ _ _ _ _) = not_word b h
 
 export_no : {text : Bytes} {r : Rules} {c : Context} {p : ℕ} {x : Export} {q : ℕ} → Bracket text p → ExportAt text r c p x q → ⊥
-export_no b (ExportAt.all _ _ _ _ _ h _ _ _ _) = not_word b h
-export_no b (ExportAt.space _ _ _ _ _ _ _ h _ _ _ _ _ _) = not_word b h
-export_no b (ExportAt.from _ _ _ _ _ h _ _ _ _) = not_word b h
+export_no b (ExportAt.all _ _ _ _ _ _ h _ _ _ _ _) = not_word b h
+export_no b (ExportAt.space _ _ _ _ _ _ _ _ h _ _ _ _ _ _ _) = not_word b h
+export_no b (ExportAt.from _ _ _ _ _ _ h _ _ _ _ _) = not_word b h
 export_no b (ExportAt.names _ _ _ h _ _) = not_word b h
 export_no b (ExportAt.var _ _ h _) = not_word b h
 export_no b (ExportAt.lex _ _ h _) = not_word b h

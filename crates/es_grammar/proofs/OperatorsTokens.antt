@@ -8,9 +8,9 @@ use Rattle.es_tree.specs.declared.cycle.Assign.{Assign}
 use Rattle.es_tree.specs.declared.cycle.Cond.{Cond}
 use Rattle.es_tree.specs.declared.cycle.Operand.{Operand}
 use Rattle.es_tree.specs.Yield.{one, listed, joined_tokens, yielded_tokens, assign_tokens, cond_tokens, operand_tokens, binary_tokens}
-use Rattle.es_grammar.specs.Contexts.{Context}
+use Rattle.es_grammar.specs.declared.places.Context.{Context}
 use Rattle.es_grammar.specs.Reading.{Bytes}
-use Rattle.es_grammar.specs.Semicolons.{Stop}
+use Rattle.es_grammar.specs.declared.places.Stop.{Stop}
 use Rattle.es_grammar.specs.Rules.{Rules}
 use Rattle.es_grammar.specs.Operators.{OperandAt, PrefixedAt, OperatorAt, ListedAt, JoinedAt, BinaryAt, CondAt, YieldedAt, AssignAt}
 use Rattle.es_grammar.specs.Tokens.{TokensAt}

@@ -30,14 +30,14 @@ use Rattle.es_tree.specs.declared.cycle.Primary.{Primary}
 use Rattle.es_tree.specs.declared.cycle.Base.{Base}
 use Rattle.es_tree.specs.declared.program.Program.{Program}
 use Rattle.es_tree.specs.declared.program.ProgramItem.{ProgramItem}
-use Rattle.es_grammar.specs.Contexts.{Context}
+use Rattle.es_grammar.specs.declared.places.Context.{Context}
 use Rattle.es_grammar.specs.Reading.{Bytes, spelled, IsAt, KindAt, MarkAt}
-use Rattle.es_grammar.specs.Semicolons.{Stop}
+use Rattle.es_grammar.specs.declared.places.Stop.{Stop}
 use Rattle.es_grammar.specs.Rules.{Rules}
 use Rattle.es_grammar.specs.Lists.{Chain, EndedListAt}
 use Rattle.es_grammar.specs.Functions.{ClosedItemAt, BodyAt, AsyncAt, FuncAt, ArrowParamsAt, ArrowAt, ClassAt}
 use Rattle.es_grammar.specs.Expressions.{Expr, ExprAt, TemplateAt, PrimaryAt, BaseAt, ImportCallAt, LHSAt, NewAt}
-use Rattle.es_grammar.specs.Targets.{SimpleTargetAt, TargetAt, TargetPatternAt}
+use Rattle.es_grammar.specs.Targets.{ParenthesisedAt, SimpleTargetAt, TargetAt, TargetPatternAt}
 use Rattle.es_grammar.specs.Operators.{update_marks, OperandAt, PrefixedAt, ListedAt, BinaryAt, CondAt, AssignAt}
 use Rattle.es_grammar.specs.Statements.{LexicalAt, Lex, Var, LexAt, VarAt, ForAt, StmtAt, ItemAt}
 use Rattle.es_grammar.specs.declared.TheConstants.{MAX_NEST}
@@ -150,7 +150,8 @@ lhs_no b (LHSAt.super _ _ _ h _ _ _) = no_kind_at b.foreign refl h.is
 simple_target_no : {text : Bytes} {r : Rules} {c : Context} {p : ℕ} {x : Target} {q : ℕ} → Bare text r p → SimpleTargetAt text r c p x q → ⊥
 simple_target_no b (SimpleTargetAt.name _ h) = no_kind_at b.foreign refl h.is
 simple_target_no b (SimpleTargetAt.member _ h _) = lhs_no b h
-simple_target_no b (SimpleTargetAt.paren _ _ _ h _ _) = no_mark_at b.foreign refl h
+simple_target_no b (SimpleTargetAt.paren_name _ (ParenthesisedAt.parenthesised _ _ _ _ h _ _ _ _)) = no_mark_at b.foreign refl h
+simple_target_no b (SimpleTargetAt.paren_member _ (ParenthesisedAt.parenthesised _ _ _ _ h _ _ _ _)) = no_mark_at b.foreign refl h
 
 operand_no : {text : Bytes} {r : Rules} {c : Context} {p : ℕ} {x : Operand} {s : Stop} → Bare text r p → OperandAt text r c p x s → ⊥
 operand_no b (OperandAt.prefixed _ h) = b.no_prefixed _ _ _ h
@@ -233,13 +234,13 @@ item_no b no_assign (ItemAt.func _ h) = func_no b h
 item_no b no_assign (ItemAt.class _ h) = class_no b h
 
 import_no : {text : Bytes} {c : Context} {p : ℕ} {x : Import} {q : ℕ} → Foreign text p → ImportAt text c p x q → ⊥
-import_no b (ImportAt.bare _ _ _ h _ _) = no_kind_at b refl h.is
-import_no b (ImportAt.from _ _ _ _ _ h _ _ _ _) = no_kind_at b refl h.is
+import_no b (ImportAt.bare _ _ _ _ h _ _ _) = no_kind_at b refl h.is
+import_no b (ImportAt.from _ _ _ _ _ _ h _ _ _ _ _) = no_kind_at b refl h.is
 
 export_no : {text : Bytes} {r : Rules} {c : Context} {p : ℕ} {x : Export} {q : ℕ} → Foreign text p → ExportAt text r c p x q → ⊥
-export_no b (ExportAt.all _ _ _ _ _ h _ _ _ _) = no_kind_at b refl h.is
-export_no b (ExportAt.space _ _ _ _ _ _ _ h _ _ _ _ _ _) = no_kind_at b refl h.is
-export_no b (ExportAt.from _ _ _ _ _ h _ _ _ _) = no_kind_at b refl h.is
+export_no b (ExportAt.all _ _ _ _ _ _ h _ _ _ _ _) = no_kind_at b refl h.is
+export_no b (ExportAt.space _ _ _ _ _ _ _ _ h _ _ _ _ _ _ _) = no_kind_at b refl h.is
+export_no b (ExportAt.from _ _ _ _ _ _ h _ _ _ _ _) = no_kind_at b refl h.is
 export_no b (ExportAt.names _ _ _ h _ _) = no_kind_at b refl h.is
 export_no b (ExportAt.var _ _ h _) = no_kind_at b refl h.is
 export_no b (ExportAt.lex _ _ h _) = no_kind_at b refl h.is

@@ -6,9 +6,10 @@ use Rattle.es_tree.specs.declared.tokens.Goal.{Goal}
 use Rattle.es_tree.specs.declared.parts.Separated.{Separated}
 use Rattle.es_tree.specs.declared.parts.Rest.{Rest}
 use Rattle.es_tree.specs.Yield.{Tokens, one, opt, listed, separated_tokens, rest_tokens}
-use Rattle.es_grammar.specs.Contexts.{Context}
+use Rattle.es_grammar.specs.declared.places.Context.{Context}
 use Rattle.es_grammar.specs.Reading.{Bytes, KindAt, MarkAt, OneOfMarksAt, WordAt, OneOfWordsAt, NameAt}
-use Rattle.es_grammar.specs.Semicolons.{Stop, SemiAt, FreeSemiAt}
+use Rattle.es_grammar.specs.declared.places.Stop.{Stop}
+use Rattle.es_grammar.specs.Semicolons.{SemiAt, FreeSemiAt}
 use Rattle.es_grammar.specs.Lists.{Chain, SomeAt, ListAt, EachAt, EndedListAt, ElementsAt, EachElementAt}
 use Rattle.es_grammar.specs.Functions.{RestAt}
 use Rattle.es_grammar.specs.Tokens.{TokensAt}

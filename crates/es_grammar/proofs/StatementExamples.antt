@@ -36,7 +36,7 @@ use Rattle.es_grammar.specs.Expressions.{ExprAt, ClosedExprAt, ArgumentAt, ArgsA
 use Rattle.es_grammar.specs.Targets.{SimpleTargetAt}
 use Rattle.es_grammar.specs.Operators.{OperandAt, OperatorAt, ListedAt, JoinedAt, BinaryAt, CondAt, AssignAt}
 use Rattle.es_grammar.specs.Statements.{DeclaredAt, LexicalAt, LexAt, HeadAt, ForAwaitAt, ForAt, ElseAt, StmtAt, ItemAt}
-use Rattle.es_grammar.specs.Modules.{ImportNameAt, NamedAt, ClauseAt, ImportAt, RenamedAt, LocalNameAt, NamesAt, ExportAt, ScriptItemAt, ModuleItemAt}
+use Rattle.es_grammar.specs.Modules.{ImportNameAt, NamedAt, ClauseAt, AttributeAt, WithAt, OptionalWithAt, ImportAt, RenamedAt, LocalNameAt, NamesAt, ExportAt, ScriptItemAt, ModuleItemAt}
 use Rattle.es_grammar.specs.Parses.{Parses}
 use Rattle.es_grammar.proofs.Computing.{lexing, spelling}
 use Rattle.es_grammar.proofs.Witnesses.{word, mark, number, string, end_at, below, kinded, marked, worded, named, one_marked, one_worded, item_up, stmt_up, assign_up, no_mark, no_word, no_declaration, closed_item, fits_lhs, fits_postfix}
@@ -547,7 +547,7 @@ module_tree = record {
             (separated (import_name_v.Renamed (word 12 13) (word 14 16) (word 17 18)) None ∷ []);
         right = (mark 19 20);
       })) (word 21 25) (string 26
-      29) None)) ∷ ((program_item_v.Export (export_v.Names (below (word 30 36)) (record {
+      29) None None)) ∷ ((program_item_v.Export (export_v.Names (below (word 30 36)) (record {
         left = (mark 37 38);
         list = (separated (record {
           name = (word 39 40);
@@ -657,11 +657,11 @@ unfolding spelling
 module_parses = record {
   last = 52;
   items =
-      Chain.more _ _ (ModuleItemAt.import_from _ (ImportAt.from (word 0 6) _ (word 21 25) (string 26 29) _ (worded module_0 refl refl)
+      Chain.more _ _ (ModuleItemAt.import_from _ (ImportAt.from (word 0 6) _ (word 21 25) (string 26 29) _ _ (worded module_0 refl refl)
       (ClauseAt.name_named (word 7 8) (mark 8 9) _ (named module_7 refl refl) (marked module_8_operator refl refl) (NamedAt.named (mark 10
       11) _ (mark 19 20) (marked module_10 refl refl) (ListAt.some _ (SomeAt.last _ (ImportNameAt.renamed (word 12 13) (word 14 16) (word 17
       18) (kinded module_12 refl) (worded module_14 refl refl) (named module_17 refl refl)))) (marked module_19_operator refl refl)))
-      (worded module_21_operator refl refl) (kinded module_26 refl) (SemiAt.left_out (below (word 30 36)) module_30_operator (no_mark (below
+      (worded module_21_operator refl refl) (kinded module_26 refl) OptionalWithAt.none (SemiAt.left_out (below (word 30 36)) module_30_operator (no_mark (below
       (word 30 36)) module_30_operator refl (below (word 30 36))) refl))) (Chain.more _ _ (ModuleItemAt.export _ (ExportAt.names (below
       (word 30 36)) _ _ (worded module_30 refl refl) (NamesAt.names (mark 37 38) _ (mark 50 51) (marked module_37 refl refl) (ListAt.some _
       (SomeAt.more _ (mark 40 41) _ (LocalNameAt.name (word 39 40) _ (named module_39 refl refl) RenamedAt.none) (marked module_40_operator
@@ -670,6 +670,85 @@ module_parses = record {
       module_50_operator refl refl)) (SemiAt.written (mark 51 52) (marked module_51_operator refl refl)))) Chain.none);
   end = end_at 52;
   is_end = kinded module_52 refl;
+}
+
+-- attributes on the next line
+abbrev attributes_text : Bytes
+attributes_text = codes "import \"m\"\nwith { type: \"json\", };"
+
+abbrev attributes_tree : Program
+attributes_tree = record {
+  goal = Module;
+  items =
+      (program_item_v.Import (import_v.Bare (word 0 6) (string 7 10) (Some (record {
+        word = below (word 11 15);
+        left = (mark 16 17);
+        list = separated (record {
+          key = (word 18 22);
+          colon = (mark 22 23);
+          value = (string 24 30);
+        }) (Some (mark 30 31)) ∷ [];
+        right = (mark 32 33);
+      })) (Some (mark 33 34)))) ∷ [];
+}
+
+attributes_0 : IsAt attributes_text Operand 0 (word 0 6)
+unfolding lexing
+attributes_0 = refl
+
+attributes_7 : IsAt attributes_text Operand 6 (string 7 10)
+unfolding lexing
+attributes_7 = refl
+
+attributes_11_operator : IsAt attributes_text Operator 10 (below (word 11 15))
+unfolding lexing
+attributes_11_operator = refl
+
+attributes_16 : IsAt attributes_text Operand 15 (mark 16 17)
+unfolding lexing
+attributes_16 = refl
+
+attributes_18 : IsAt attributes_text Operand 17 (word 18 22)
+unfolding lexing
+attributes_18 = refl
+
+attributes_22_operator : IsAt attributes_text Operator 22 (mark 22 23)
+unfolding lexing
+attributes_22_operator = refl
+
+attributes_24 : IsAt attributes_text Operand 23 (string 24 30)
+unfolding lexing
+attributes_24 = refl
+
+attributes_30_operator : IsAt attributes_text Operator 30 (mark 30 31)
+unfolding lexing
+attributes_30_operator = refl
+
+attributes_32_operator : IsAt attributes_text Operator 31 (mark 32 33)
+unfolding lexing
+attributes_32_operator = refl
+
+attributes_33_operator : IsAt attributes_text Operator 33 (mark 33 34)
+unfolding lexing
+attributes_33_operator = refl
+
+attributes_34 : IsAt attributes_text Operand 34 (end_at 34)
+unfolding lexing
+attributes_34 = refl
+
+attributes_parses : Parses attributes_text attributes_tree
+unfolding spelling
+attributes_parses = record {
+  last = 34;
+  items =
+      Chain.more _ _ (ModuleItemAt.import_from _ (ImportAt.bare (word 0 6) (string 7 10) _ _ (worded attributes_0 refl refl)
+      (kinded attributes_7 refl) (OptionalWithAt.some _ (WithAt.with (below (word 11 15)) (mark 16 17) _ (mark 32 33)
+      (worded attributes_11_operator refl refl) (marked attributes_16 refl refl) (ListAt.some _ (SomeAt.ended _ (mark 30 31)
+      (AttributeAt.word (word 18 22) (mark 22 23) (string 24 30) (kinded attributes_18 refl) (marked attributes_22_operator refl refl)
+      (kinded attributes_24 refl)) (marked attributes_30_operator refl refl))) (marked attributes_32_operator refl refl)))
+      (SemiAt.written (mark 33 34) (marked attributes_33_operator refl refl)))) Chain.none;
+  end = end_at 34;
+  is_end = kinded attributes_34 refl;
 }
 
 -- a division, a block, and no semicolon before `}`

@@ -13,9 +13,9 @@ use Rattle.es_tree.specs.declared.cycle.For.{For}
 use Rattle.es_tree.specs.declared.cycle.Head.{Head}
 use Rattle.es_tree.specs.declared.cycle.Bind.{Bind}
 use Rattle.es_tree.specs.Yield.{one, opt, listed, else_tokens, catch_parameter_tokens, finally_tokens, item_tokens, decl_tokens, case_tokens, stmt_tokens, init_tokens, for_tokens, head_tokens, bind_tokens, lex_tokens, var_tokens, expr_tokens}
-use Rattle.es_grammar.specs.Contexts.{Context}
+use Rattle.es_grammar.specs.declared.places.Context.{Context}
 use Rattle.es_grammar.specs.Reading.{Bytes}
-use Rattle.es_grammar.specs.Semicolons.{Stop}
+use Rattle.es_grammar.specs.declared.places.Stop.{Stop}
 use Rattle.es_grammar.specs.Rules.{Rules}
 use Rattle.es_grammar.specs.Statements.{DeclaredAt, LexicalAt, Lex, Var, LexAt, VarAt, InitAt, OptionalInitAt, OptionalExprAt, HeadAt, ForAwaitAt, ForAt, CaseAt, CasesAt, ElseAt, LabelAt, ExprOnLineAt, CatchParameterAt, FinallyAt, OptionalFinallyAt, StmtAt, ItemAt}
 use Rattle.es_grammar.specs.Expressions.{Expr}

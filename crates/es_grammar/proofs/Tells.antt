@@ -9,9 +9,9 @@ use Rattle.es_tree.specs.declared.cycle.Target.{Target}
 use Rattle.es_tree.specs.declared.cycle.Base.{Base}
 use Rattle.es_tree.specs.declared.cycle.LHS.{LHS}
 use Rattle.es_tree.specs.Yield.{item_tokens, stmt_tokens, assign_tokens, operand_tokens, bind_tokens, target_tokens, base_tokens, lhs_tokens}
-use Rattle.es_grammar.specs.Contexts.{Context}
+use Rattle.es_grammar.specs.declared.places.Context.{Context}
 use Rattle.es_grammar.specs.Reading.{Bytes}
-use Rattle.es_grammar.specs.Semicolons.{Stop}
+use Rattle.es_grammar.specs.declared.places.Stop.{Stop}
 use Rattle.es_grammar.specs.Rules.{Rules}
 use Rattle.es_grammar.specs.Tokens.{TokensAt}
 

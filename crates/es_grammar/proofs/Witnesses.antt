@@ -37,9 +37,10 @@ use Rattle.es_tree.specs.declared.cycle.TargetPart.{TargetPart}
 use Rattle.es_tree.specs.declared.cycle.Arrow.TheOpen.{Operand-F}
 use Rattle.es_tree.specs.declared.cycle.Operand.TheVariants as operand_v
 use Rattle.es_tree.specs.declared.tokens.LexFault.{LexFault}
-use Rattle.es_grammar.specs.Contexts.{Context}
+use Rattle.es_grammar.specs.declared.places.Context.{Context}
 use Rattle.es_grammar.specs.Reading.{Bytes, spelled, IsAt, KindAt, MarkAt, OneOfMarksAt, OneOfWordsAt, WordAt, NameAt}
-use Rattle.es_grammar.specs.Semicolons.{Stop, IsClosedItem}
+use Rattle.es_grammar.specs.declared.places.Stop.{Stop}
+use Rattle.es_grammar.specs.Semicolons.{IsClosedItem}
 use Rattle.es_grammar.specs.Parses.{rules_to}
 use Rattle.es_grammar.specs.Operators.{AssignAt, PrefixedAt, IsPrivate, HasPrefix, FitsBetween}
 use Rattle.es_grammar.specs.Expressions.{NewAt}

@@ -1,14 +1,6 @@
 -- What a production may hold depends on where it stands: the grammar parameters of ECMA-262, clause 5.1.5.
 use Rattle.std.specs.Prelude.{Bool, true, false}
-use Rattle.es_tree.specs.declared.tokens.ProgramGoal.{ProgramGoal}
-
--- whether `in` is an operator, `yield` is one, `await` is one, and `return` may stand; and the goal of the program
-pub record Context : Type 0 where
-  pub has_in : Bool
-  pub has_yield : Bool
-  pub has_await : Bool
-  pub has_return : Bool
-  pub goal : ProgramGoal
+use Rattle.es_grammar.specs.declared.places.Context.{Context}
 
 -- within brackets `in` is an operator
 abbrev pub bracketed : Context → Context

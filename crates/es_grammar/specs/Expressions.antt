@@ -27,9 +27,11 @@ use Rattle.es_tree.specs.declared.cycle.Primary.TheVariants as primary_v
 use Rattle.es_tree.specs.declared.cycle.Base.{Base}
 use Rattle.es_tree.specs.declared.cycle.Base.TheVariants as base_v
 use Rattle.es_tree.specs.declared.cycle.LHS.{LHS, roll-LHS}
-use Rattle.es_grammar.specs.Contexts.{Context, bracketed}
+use Rattle.es_grammar.specs.declared.places.Context.{Context}
+use Rattle.es_grammar.specs.Contexts.{bracketed}
 use Rattle.es_grammar.specs.Reading.{Bytes, KindAt, MarkAt, NameAt, OneOfWordsAt, WordAt, spelled}
-use Rattle.es_grammar.specs.Semicolons.{Stop, IsClosed}
+use Rattle.es_grammar.specs.declared.places.Stop.{Stop}
+use Rattle.es_grammar.specs.Semicolons.{IsClosed}
 use Rattle.es_grammar.specs.Lists.{Chain, ElementsAt, EndedListAt, ListAt}
 use Rattle.es_grammar.specs.Rules.{Rules}
 use Rattle.es_grammar.specs.Functions.{ClassAt, FuncAt, KeyAt, MethodAt}

@@ -31,9 +31,12 @@ use Rattle.es_tree.specs.declared.cycle.Element.{Element}
 use Rattle.es_tree.specs.declared.cycle.Element.TheVariants as element_v
 use Rattle.es_tree.specs.declared.cycle.Class.{Class, roll-Class}
 use Rattle.es_tree.specs.declared.cycle.LHS.{LHS}
-use Rattle.es_grammar.specs.Contexts.{Context, bracketed, in_function, in_arrow, in_concise, in_class}
+use Rattle.es_grammar.specs.declared.places.Context.{Context}
+use Rattle.es_grammar.specs.Contexts.{bracketed, in_function, in_arrow, in_concise, in_class}
 use Rattle.es_grammar.specs.Reading.{Bytes, IsAt, KindAt, MarkAt, NameAt, WordAt, IsOnLine, spelled}
-use Rattle.es_grammar.specs.Semicolons.{Stop, stop, Ending, block_arrow, declared_name, field_key, accessor_key, static_key, IsClosedItem, SemiAt}
+use Rattle.es_grammar.specs.declared.places.Stop.{Stop}
+use Rattle.es_grammar.specs.declared.places.Ending.{Ending}
+use Rattle.es_grammar.specs.Semicolons.{stop, block_arrow, declared_name, field_key, accessor_key, static_key, IsClosedItem, SemiAt}
 use Rattle.es_grammar.specs.Lists.{Chain, EachAt, EachElementAt, ElementsAt, ListAt}
 use Rattle.es_grammar.specs.Rules.{Rules}
 

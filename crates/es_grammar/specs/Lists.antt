@@ -4,7 +4,7 @@ use Rattle.es_tree.specs.declared.tokens.Token.{Token}
 use Rattle.es_tree.specs.declared.tokens.Goal.TheVariants.{Operator}
 use Rattle.es_tree.specs.declared.parts.Separated.{Separated}
 use Rattle.es_grammar.specs.Reading.{Bytes, MarkAt}
-use Rattle.es_grammar.specs.Semicolons.{Stop}
+use Rattle.es_grammar.specs.declared.places.Stop.{Stop}
 
 -- one behind the other
 pub data Chain {X : Type 0} (a_part : ℕ → X → ℕ → Type 0) : ℕ → List X → ℕ → Type 0 where

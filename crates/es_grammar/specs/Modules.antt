@@ -4,6 +4,7 @@ use Rattle.es_tree.specs.declared.tokens.Token.{Token}
 use Rattle.es_tree.specs.declared.tokens.TokenKind.TheVariants as kind
 use Rattle.es_tree.specs.declared.tokens.Goal.TheVariants.{Operand, Operator}
 use Rattle.es_tree.specs.declared.parts.Separated.{Separated}
+use Rattle.es_tree.specs.declared.program.Attribute.{Attribute}
 use Rattle.es_tree.specs.declared.program.Clause.{Clause}
 use Rattle.es_tree.specs.declared.program.Clause.TheVariants as clause_v
 use Rattle.es_tree.specs.declared.program.Export.{Export}
@@ -19,13 +20,15 @@ use Rattle.es_tree.specs.declared.program.ProgramItem.{ProgramItem}
 use Rattle.es_tree.specs.declared.program.ProgramItem.TheVariants as program_item_v
 use Rattle.es_tree.specs.declared.program.Renamed.{Renamed}
 use Rattle.es_tree.specs.declared.program.Space.{Space}
+use Rattle.es_tree.specs.declared.program.With.{With}
 use Rattle.es_tree.specs.declared.cycle.Assign.{Assign}
 use Rattle.es_tree.specs.declared.cycle.Class.{Class}
 use Rattle.es_tree.specs.declared.cycle.Func.{Func}
 use Rattle.es_tree.specs.declared.cycle.Item.{Item}
-use Rattle.es_grammar.specs.Contexts.{Context}
+use Rattle.es_grammar.specs.declared.places.Context.{Context}
 use Rattle.es_grammar.specs.Reading.{Bytes, KindAt, MarkAt, NameAt, WordAt}
-use Rattle.es_grammar.specs.Semicolons.{Stop, stop, other, exported_names, SemiAt}
+use Rattle.es_grammar.specs.declared.places.Stop.{Stop}
+use Rattle.es_grammar.specs.Semicolons.{stop, other, exported_names, request, SemiAt}
 use Rattle.es_grammar.specs.Lists.{ListAt}
 use Rattle.es_grammar.specs.Rules.{Rules}
 use Rattle.es_grammar.specs.Functions.{ClassAt, ClosedItemAt, FuncAt}
@@ -62,13 +65,33 @@ pub data ClauseAt (text : Bytes) (c : Context) : ℕ → Clause → ℕ → Type
   name_named : {p q : ℕ} (token comma : Token) (x : Named) → NameAt text Operand c p token → MarkAt text Operator (codes ",") token.end comma
       → NamedAt text c comma.end x q → ClauseAt text c p (clause_v.NameNamed token comma x) q
 
+-- (IdName | String) `:` String
+pub data AttributeAt (text : Bytes) : ℕ → Attribute → ℕ → Type 0 where
+  word : {p : ℕ} (key colon value : Token) → KindAt text Operand kind.IdName p key → MarkAt text Operator (codes ":") key.end colon
+      → StringAt text colon.end value → AttributeAt text p (record { key = key; colon = colon; value = value }) value.end
+  string : {p : ℕ} (key colon value : Token) → StringAt text p key → MarkAt text Operator (codes ":") key.end colon
+      → StringAt text colon.end value → AttributeAt text p (record { key = key; colon = colon; value = value }) value.end
+
+-- With, which may stand on a new line
+pub data WithAt (text : Bytes) : ℕ → With → ℕ → Type 0 where
+  with : {p q : ℕ} (word left : Token) (xs : List (Separated Attribute)) (right : Token)
+      → WordAt text Operator (codes "with") p word → MarkAt text Operand (codes "{") word.end left → ListAt text (AttributeAt text) left.end xs q
+      → MarkAt text Operator (codes "}") q right → WithAt text p (record { word = word; left = left; list = xs; right = right }) right.end
+
+-- With? behind a request
+pub data OptionalWithAt (text : Bytes) : ℕ → Option With → Stop → Type 0 where
+  none : {p : ℕ} → OptionalWithAt text p None (stop p request)
+  some : {p q : ℕ} (x : With) → WithAt text p x q → OptionalWithAt text p (Some x) (stop q other)
+
 -- Import
 pub data ImportAt (text : Bytes) (c : Context) : ℕ → Import → ℕ → Type 0 where
-  bare : {p q : ℕ} (word request : Token) (semi : Option Token) → WordAt text Operand (codes "import") p word → StringAt text word.end request
-      → SemiAt text (stop request.end other) semi q → ImportAt text c p (import_v.Bare word request semi) q
-  from : {p a q : ℕ} (word : Token) (x : Clause) (from_word request : Token) (semi : Option Token) → WordAt text Operand (codes "import") p word
+  bare : {p q : ℕ} {s : Stop} (word request : Token) (attributes : Option With) (semi : Option Token) → WordAt text Operand (codes "import") p word
+      → StringAt text word.end request → OptionalWithAt text request.end attributes s → SemiAt text s semi q
+      → ImportAt text c p (import_v.Bare word request attributes semi) q
+  from : {p a q : ℕ} {s : Stop} (word : Token) (x : Clause) (from_word request : Token) (attributes : Option With) (semi : Option Token) → WordAt text Operand (codes "import") p word
       → ClauseAt text c word.end x a → WordAt text Operator (codes "from") a from_word → StringAt text from_word.end request
-      → SemiAt text (stop request.end other) semi q → ImportAt text c p (import_v.From word x from_word request semi) q
+      → OptionalWithAt text request.end attributes s → SemiAt text s semi q
+      → ImportAt text c p (import_v.From word x from_word request attributes semi) q
 
 pub data RenamedAt (text : Bytes) : ℕ → Option Renamed → ℕ → Type 0 where
   none : {p : ℕ} → RenamedAt text p None p
@@ -93,17 +116,19 @@ pub data NamesAt (text : Bytes) (a_name : ℕ → ExportName → ℕ → Type 0)
 
 -- Export
 pub data ExportAt (text : Bytes) (r : Rules) (c : Context) : ℕ → Export → ℕ → Type 0 where
-  all : {p q : ℕ} (word star from_word request : Token) (semi : Option Token) → WordAt text Operand (codes "export") p word
+  all : {p q : ℕ} {s : Stop} (word star from_word request : Token) (attributes : Option With) (semi : Option Token) → WordAt text Operand (codes "export") p word
       → MarkAt text Operand (codes "*") word.end star → WordAt text Operand (codes "from") star.end from_word → StringAt text from_word.end request
-      → SemiAt text (stop request.end other) semi q → ExportAt text r c p (export_v.All word star from_word request semi) q
-  space : {p q : ℕ} (word star as_word name from_word request : Token) (semi : Option Token) → WordAt text Operand (codes "export") p word
+      → OptionalWithAt text request.end attributes s → SemiAt text s semi q
+      → ExportAt text r c p (export_v.All word star from_word request attributes semi) q
+  space : {p q : ℕ} {s : Stop} (word star as_word name from_word request : Token) (attributes : Option With) (semi : Option Token) → WordAt text Operand (codes "export") p word
       → MarkAt text Operand (codes "*") word.end star → WordAt text Operand (codes "as") star.end as_word
       → KindAt text Operand kind.IdName as_word.end name → WordAt text Operator (codes "from") name.end from_word
-      → StringAt text from_word.end request → SemiAt text (stop request.end other) semi q
-      → ExportAt text r c p (export_v.Space word star as_word name from_word request semi) q
-  from : {p a q : ℕ} (word : Token) (x : Names) (from_word request : Token) (semi : Option Token) → WordAt text Operand (codes "export") p word
+      → StringAt text from_word.end request → OptionalWithAt text request.end attributes s → SemiAt text s semi q
+      → ExportAt text r c p (export_v.Space word star as_word name from_word request attributes semi) q
+  from : {p a q : ℕ} {s : Stop} (word : Token) (x : Names) (from_word request : Token) (attributes : Option With) (semi : Option Token) → WordAt text Operand (codes "export") p word
       → NamesAt text (ExportNameAt text) word.end x a → WordAt text Operator (codes "from") a from_word → StringAt text from_word.end request
-      → SemiAt text (stop request.end other) semi q → ExportAt text r c p (export_v.From word x from_word request semi) q
+      → OptionalWithAt text request.end attributes s → SemiAt text s semi q
+      → ExportAt text r c p (export_v.From word x from_word request attributes semi) q
   names : {p a q : ℕ} (word : Token) (x : Names) (semi : Option Token) → WordAt text Operand (codes "export") p word
       → NamesAt text (LocalNameAt text c) word.end x a → SemiAt text (stop a exported_names) semi q
       → ExportAt text r c p (export_v.Names word x semi) q

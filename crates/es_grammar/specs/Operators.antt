@@ -16,9 +16,11 @@ use Rattle.es_tree.specs.declared.cycle.LHS.{LHS}
 use Rattle.es_tree.specs.declared.cycle.Operand.{Operand}
 use Rattle.es_tree.specs.declared.cycle.Operand.TheVariants as operand_v
 use Rattle.es_tree.specs.declared.cycle.Target.{Target}
-use Rattle.es_grammar.specs.Contexts.{Context, bracketed}
+use Rattle.es_grammar.specs.declared.places.Context.{Context}
+use Rattle.es_grammar.specs.Contexts.{bracketed}
 use Rattle.es_grammar.specs.Reading.{Bytes, IsAt, KindAt, MarkAt, OneOfMarksAt, OneOfWordsAt, WordAt, IsOnLine, spelled}
-use Rattle.es_grammar.specs.Semicolons.{Stop, stop, block_arrow, postfix, expression, binary_marks, assignment_marks}
+use Rattle.es_grammar.specs.declared.places.Stop.{Stop}
+use Rattle.es_grammar.specs.Semicolons.{stop, block_arrow, postfix, expression, binary_marks, assignment_marks}
 use Rattle.es_grammar.specs.Rules.{Rules}
 use Rattle.es_grammar.specs.Functions.{ArrowAt}
 use Rattle.es_grammar.specs.Expressions.{LHSAt}

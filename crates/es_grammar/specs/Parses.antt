@@ -12,7 +12,7 @@ use Rattle.es_tree.specs.declared.cycle.Item.TheVariants as item_v
 use Rattle.es_tree.specs.declared.program.Program.{Program}
 use Rattle.es_tree.specs.declared.program.ProgramItem.{ProgramItem}
 use Rattle.es_grammar.specs.declared.TheConstants.{MAX_NEST}
-use Rattle.es_grammar.specs.Contexts.{Context}
+use Rattle.es_grammar.specs.declared.places.Context.{Context}
 use Rattle.es_grammar.specs.Reading.{Bytes, KindAt}
 use Rattle.es_grammar.specs.Lists.{Chain}
 use Rattle.es_grammar.specs.Rules.{Rules}

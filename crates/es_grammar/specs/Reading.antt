@@ -9,7 +9,7 @@ use Rattle.es_tree.specs.declared.tokens.Goal.{Goal}
 use Rattle.es_tree.specs.Lexical.{token_at}
 use Rattle.es_tree.specs.Names.{name_of}
 use Rattle.es_tree.specs.ReservedWords.{is_reserved}
-use Rattle.es_grammar.specs.Contexts.{Context}
+use Rattle.es_grammar.specs.declared.places.Context.{Context}
 
 abbrev pub Bytes : Type 0
 Bytes = List ℕ

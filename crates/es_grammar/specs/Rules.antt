@@ -8,8 +8,8 @@ use Rattle.es_tree.specs.declared.cycle.Bind.{Bind}
 use Rattle.es_tree.specs.declared.cycle.Target.{Target}
 use Rattle.es_tree.specs.declared.cycle.Base.{Base}
 use Rattle.es_tree.specs.declared.cycle.LHS.{LHS}
-use Rattle.es_grammar.specs.Contexts.{Context}
-use Rattle.es_grammar.specs.Semicolons.{Stop}
+use Rattle.es_grammar.specs.declared.places.Context.{Context}
+use Rattle.es_grammar.specs.declared.places.Stop.{Stop}
 
 -- One rule for each production that counts for the nest: items (one that is a statement counts once), statements within statements, assignments,
 -- operands with a prefix, patterns, `new`, and what a class extends

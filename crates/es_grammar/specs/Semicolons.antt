@@ -6,24 +6,41 @@ use Rattle.es_tree.specs.declared.tokens.Token.{Token}
 use Rattle.es_tree.specs.declared.tokens.TokenKind.{TokenKind}
 use Rattle.es_tree.specs.declared.tokens.TokenKind.TheVariants as kind
 use Rattle.es_tree.specs.declared.tokens.Goal.TheVariants.{Operand, Operator}
+use Rattle.es_grammar.specs.declared.places.Ending.{Ending}
+use Rattle.es_grammar.specs.declared.places.Ending.TheVariants as ended
+use Rattle.es_grammar.specs.declared.places.Stop.{Stop}
 use Rattle.es_grammar.specs.Reading.{Bytes, spelled, IsAt, MarkAt, WordAt}
 
--- what ends before a gap
-pub data Ending : Type 0 where
-  block_arrow : Ending  -- an arrow function with a block body, and `yield` alone
-  postfix : Ending  -- `++` or `--` behind a target
-  expression : Ending  -- any other expression
-  declared_name : Ending  -- a declared name without initialiser
-  exported_names : Ending  -- a list of exported names
-  field_key : Ending  -- the key of a field without initialiser
-  accessor_key : Ending  -- the same where it is `get` or `set`
-  static_key : Ending  -- the same where it is `static`
-  other : Ending
+-- the words of `Ending`
+abbrev pub block_arrow : Ending
+block_arrow = ended.BlockArrow
 
--- where a production ends, and in what
-pub record Stop : Type 0 where
-  pub at : ℕ
-  pub ending : Ending
+abbrev pub postfix : Ending
+postfix = ended.Postfix
+
+abbrev pub expression : Ending
+expression = ended.Expression
+
+abbrev pub declared_name : Ending
+declared_name = ended.DeclaredName
+
+abbrev pub exported_names : Ending
+exported_names = ended.ExportedNames
+
+abbrev pub request : Ending
+request = ended.Request
+
+abbrev pub field_key : Ending
+field_key = ended.FieldKey
+
+abbrev pub accessor_key : Ending
+accessor_key = ended.AccessorKey
+
+abbrev pub static_key : Ending
+static_key = ended.StaticKey
+
+abbrev pub other : Ending
+other = ended.Other
 
 abbrev pub stop : ℕ → Ending → Stop
 stop at ending = record { at = at; ending = ending }
@@ -43,30 +60,31 @@ assignment_marks =
 
 -- the punctuators that go on with what ended
 abbrev pub marks_behind : Ending → List (List ℕ)
-marks_behind block_arrow = codes "," ∷ []
-marks_behind postfix = codes "," ∷ codes "?" ∷ binary_marks
-marks_behind expression = codes "," ∷ codes "?" ∷ codes "=" ∷ codes "." ∷ codes "?." ∷ codes "(" ∷ codes "[" ∷ (binary_marks ++ assignment_marks)
-marks_behind declared_name = codes "=" ∷ codes "," ∷ []
-marks_behind field_key = codes "=" ∷ codes "(" ∷ []
-marks_behind accessor_key = codes "=" ∷ codes "(" ∷ codes "[" ∷ []
-marks_behind static_key = codes "=" ∷ codes "(" ∷ codes "[" ∷ codes "*" ∷ codes "{" ∷ []
+marks_behind ended.BlockArrow = codes "," ∷ []
+marks_behind ended.Postfix = codes "," ∷ codes "?" ∷ binary_marks
+marks_behind ended.Expression = codes "," ∷ codes "?" ∷ codes "=" ∷ codes "." ∷ codes "?." ∷ codes "(" ∷ codes "[" ∷ (binary_marks ++ assignment_marks)
+marks_behind ended.DeclaredName = codes "=" ∷ codes "," ∷ []
+marks_behind ended.FieldKey = codes "=" ∷ codes "(" ∷ []
+marks_behind ended.AccessorKey = codes "=" ∷ codes "(" ∷ codes "[" ∷ []
+marks_behind ended.StaticKey = codes "=" ∷ codes "(" ∷ codes "[" ∷ codes "*" ∷ codes "{" ∷ []
 marks_behind _ = []
 
 abbrev pub words_behind : Ending → List (List ℕ)
-words_behind postfix = binary_words
-words_behind expression = binary_words
-words_behind exported_names = codes "from" ∷ []
+words_behind ended.Postfix = binary_words
+words_behind ended.Expression = binary_words
+words_behind ended.ExportedNames = codes "from" ∷ []
+words_behind ended.Request = codes "with" ∷ []
 words_behind _ = []
 
 -- a key goes on with `get`, `set` and `static`
 abbrev pub takes_key : Ending → Bool
-takes_key accessor_key = true
-takes_key static_key = true
+takes_key ended.AccessorKey = true
+takes_key ended.StaticKey = true
 takes_key _ = false
 
 -- a template goes on with an expression
 abbrev pub takes_template : Ending → Bool
-takes_template expression = true
+takes_template ended.Expression = true
 takes_template _ = false
 
 -- a token with this spelling goes on with what ended

@@ -29,9 +29,11 @@ use Rattle.es_tree.specs.declared.cycle.Item.TheVariants as item_v
 use Rattle.es_tree.specs.declared.cycle.Stmt.{Stmt}
 use Rattle.es_tree.specs.declared.cycle.Stmt.TheVariants as stmt_v
 use Rattle.es_tree.specs.declared.cycle.Target.{Target}
-use Rattle.es_grammar.specs.Contexts.{Context, bracketed, without_in}
+use Rattle.es_grammar.specs.declared.places.Context.{Context}
+use Rattle.es_grammar.specs.Contexts.{bracketed, without_in}
 use Rattle.es_grammar.specs.Reading.{Bytes, IsAt, MarkAt, NameAt, OneOfWordsAt, WordAt, IsOnLine}
-use Rattle.es_grammar.specs.Semicolons.{Stop, stop, other, SemiAt, FreeSemiAt, IsClosed}
+use Rattle.es_grammar.specs.declared.places.Stop.{Stop}
+use Rattle.es_grammar.specs.Semicolons.{stop, other, SemiAt, FreeSemiAt, IsClosed}
 use Rattle.es_grammar.specs.Lists.{Chain, EndedListAt}
 use Rattle.es_grammar.specs.Rules.{Rules}
 use Rattle.es_grammar.specs.Functions.{BindAt, BodyAt, ClassAt, ClosedItemAt, DeclAt, FuncAt}

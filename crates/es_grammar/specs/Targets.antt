@@ -1,10 +1,12 @@
 -- What may be assigned to (ECMA-262, clauses 13.15.1 and 13.15.5).
-use Rattle.std.specs.Prelude.{◌≡◌, ℕ, Bool, true, false, List, [], ◌∷◌, ◌++◌, Option, Some, None, codes}
+use Rattle.std.specs.Prelude.{◌≡◌, ℕ, Bool, true, false, List, [], ◌∷◌, ◌++◌, length, Option, Some, None, codes}
 use Rattle.std.specs.List.{list_any}
 use Rattle.es_tree.specs.declared.tokens.Token.{Token}
+use Rattle.es_tree.specs.declared.tokens.Goal.{Goal}
 use Rattle.es_tree.specs.declared.tokens.Goal.TheVariants.{Operand, Operator}
 use Rattle.es_tree.specs.declared.parts.Separated.{Separated}
 use Rattle.es_tree.specs.declared.parts.Initializer.{Initializer}
+use Rattle.es_tree.specs.declared.parts.Parenthesised.{Parenthesised}
 use Rattle.es_tree.specs.declared.parts.PropertyKey.{PropertyKey}
 use Rattle.es_tree.specs.declared.parts.Rest.{Rest}
 use Rattle.es_tree.specs.declared.parts.SuffixOf.{SuffixOf}
@@ -15,10 +17,11 @@ use Rattle.es_tree.specs.declared.cycle.LHS.{LHS, roll-LHS}
 use Rattle.es_tree.specs.declared.cycle.Target.{Target}
 use Rattle.es_tree.specs.declared.cycle.Target.TheVariants as target_v
 use Rattle.es_tree.specs.declared.cycle.TargetPart.{TargetPart, roll-TargetPart}
-use Rattle.es_grammar.specs.Contexts.{Context, bracketed}
+use Rattle.es_grammar.specs.declared.places.Context.{Context}
+use Rattle.es_grammar.specs.Contexts.{bracketed}
 use Rattle.es_grammar.specs.Reading.{Bytes, MarkAt, NameAt}
-use Rattle.es_grammar.specs.Semicolons.{Stop}
-use Rattle.es_grammar.specs.Lists.{EachAt, EachElementAt, ElementsAt, ListAt}
+use Rattle.es_grammar.specs.declared.places.Stop.{Stop}
+use Rattle.es_grammar.specs.Lists.{Chain, EachAt, EachElementAt, ElementsAt, ListAt}
 use Rattle.es_grammar.specs.Rules.{Rules}
 use Rattle.es_grammar.specs.Functions.{InitializerAt, PropertyKeyAt, RestAt}
 use Rattle.es_grammar.specs.Expressions.{LHSAt, is_optional}
@@ -35,13 +38,32 @@ pub data IsMember : LHS → Type 0 where
   member : (x : Base) (before : List (SuffixOf Assign)) (last : SuffixOf Assign) → list_any is_optional before ≡ false → names_member last ≡ true
       → IsMember (roll-LHS (record { base = x; suffixes = before ++ last ∷ [] }))
 
+-- a mark, as a part of a chain
+pub data ChainedMarkAt (text : Bytes) (goal : Goal) (mark : List ℕ) : ℕ → Token → ℕ → Type 0 where
+  mark : {p : ℕ} (token : Token) → MarkAt text goal mark p token → ChainedMarkAt text goal mark p token token.end
+
+-- a part within one pair of parentheses or more
+pub data ParenthesisedAt {X : Type 0} (text : Bytes) (a_part : ℕ → X → ℕ → Type 0) : ℕ → Parenthesised X → ℕ → Type 0 where
+  parenthesised : {p a b q : ℕ} (left : Token) (more : List Token) (x : X) (closed : List Token) → MarkAt text Operand (codes "(") p left
+      → Chain (ChainedMarkAt text Operand (codes "(")) left.end more a → a_part a x b → Chain (ChainedMarkAt text Operator (codes ")")) b closed q
+      → length closed ≡ length (left ∷ more) → ParenthesisedAt text a_part p (record { opened = left ∷ more; item = x; closed = closed }) q
+
+-- a Name that is assigned to
+pub data TargetNameAt (text : Bytes) (c : Context) : ℕ → Token → ℕ → Type 0 where
+  name : {p : ℕ} (token : Token) → NameAt text Operand c p token → TargetNameAt text c p token token.end
+
+-- a member that is assigned to
+pub data TargetMemberAt (text : Bytes) (r : Rules) (c : Context) : ℕ → LHS → ℕ → Type 0 where
+  member : {p q : ℕ} (x : LHS) → LHSAt text r c p x q → IsMember x → TargetMemberAt text r c p x q
+
 -- A Name, or a member without `?.`, either in parentheses. Parentheses count nothing for the nest, so any number of them may stand here.
 pub data SimpleTargetAt (text : Bytes) (r : Rules) (c : Context) : ℕ → Target → ℕ → Type 0 where
   name : {p : ℕ} (token : Token) → NameAt text Operand c p token → SimpleTargetAt text r c p (target_v.Name token) token.end
   member : {p q : ℕ} (x : LHS) → LHSAt text r c p x q → IsMember x → SimpleTargetAt text r c p (target_v.Member x) q
-  paren : {p q : ℕ} (left : Token) (x : Target) (right : Token)
-      → MarkAt text Operand (codes "(") p left → SimpleTargetAt text r c left.end x q → MarkAt text Operator (codes ")") q right
-      → SimpleTargetAt text r c p (target_v.Paren left x right) right.end
+  paren_name : {p q : ℕ} (x : Parenthesised Token) → ParenthesisedAt text (TargetNameAt text c) p x q
+      → SimpleTargetAt text r c p (target_v.ParenName x) q
+  paren_member : {p q : ℕ} (x : Parenthesised LHS) → ParenthesisedAt text (TargetMemberAt text r c) p x q
+      → SimpleTargetAt text r c p (target_v.ParenMember x) q
 
 -- Target: a simple one, or a pattern
 pub data TargetAt (text : Bytes) (r : Rules) (c : Context) : ℕ → Target → ℕ → Type 0 where

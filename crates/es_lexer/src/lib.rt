@@ -13,5 +13,7 @@ mod units;
 mod utf8;
 
 pub use es_tree::LexFault;
+pub use escapes::unicode_escape;
 pub use reserved::is_reserved;
 pub use scanner::next_token;
+pub use utf8::character;

@@ -2,10 +2,11 @@
 //! which takes long; so they are proved here, once.
 #![tactic(auto)]
 
-ghost use Rattle.std.specs.Prelude.{◌≡◌, ◌++◌, ◌∷◌, [], OnOk, OnErr};
+ghost use Rattle.std.specs.Prelude.{◌≡◌, ◌++◌, ◌∷◌, [], IfOk, OnOk, OnErr};
+ghost use Rattle.es_tree.specs.declared.program.ProgramItem.TheVariants as program_item_v;
 
-use es_tree::{Program, ProgramGoal, ProgramItem};
-use sqlite_items::Items;
+use es_tree::{Export, Import, Program, ProgramGoal, ProgramItem};
+use sqlite_items::{Boxed, Items};
 use std::alloc::{AllocError, Global};
 
 /// A program without items.
@@ -16,6 +17,20 @@ pub fn empty(alloc: Global, goal: ProgramGoal) -> Program
         goal,
         items: Items::new(alloc),
     }
+}
+
+/// An import as an item.
+pub fn import_item(alloc: Global, import: Import) -> Result<ProgramItem, AllocError>
+    ensures { IfOk result (λ item. item ≡ program_item_v.Import import) }
+{
+    Ok(ProgramItem::Import(Boxed::new(alloc, import)?))
+}
+
+/// An export as an item.
+pub fn export_item(alloc: Global, export: Export) -> Result<ProgramItem, AllocError>
+    ensures { IfOk result (λ item. item ≡ program_item_v.Export export) }
+{
+    Ok(ProgramItem::Export(Boxed::new(alloc, export)?))
 }
 
 /// Adds an item behind those that the program has. Where memory runs out the item is let go.

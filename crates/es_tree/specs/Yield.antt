@@ -4,6 +4,7 @@ use Rattle.es_tree.specs.declared.tokens.Token.{Token}
 use Rattle.es_tree.specs.declared.parts.Separated.{Separated}
 use Rattle.es_tree.specs.declared.parts.Initializer.{Initializer}
 use Rattle.es_tree.specs.declared.parts.Rest.{Rest}
+use Rattle.es_tree.specs.declared.parts.Parenthesised.{Parenthesised}
 use Rattle.es_tree.specs.declared.parts.Body.{Body}
 use Rattle.es_tree.specs.declared.parts.Else.{Else}
 use Rattle.es_tree.specs.declared.parts.CatchParameter.{CatchParameter}
@@ -34,6 +35,8 @@ use Rattle.es_tree.specs.declared.program.ImportName.TheVariants as import_name_
 use Rattle.es_tree.specs.declared.program.Named.{Named}
 use Rattle.es_tree.specs.declared.program.Clause.{Clause}
 use Rattle.es_tree.specs.declared.program.Clause.TheVariants as clause_v
+use Rattle.es_tree.specs.declared.program.Attribute.{Attribute}
+use Rattle.es_tree.specs.declared.program.With.{With}
 use Rattle.es_tree.specs.declared.program.Import.{Import}
 use Rattle.es_tree.specs.declared.program.Import.TheVariants as import_v
 use Rattle.es_tree.specs.declared.program.Renamed.{Renamed}
@@ -98,6 +101,9 @@ initializer_tokens f initializer = one initializer.equals ++ f initializer.value
 
 abbrev pub rest_tokens : {X : Type 0} → (X → Tokens) → Rest X → Tokens
 rest_tokens f rest = one rest.dots ++ f rest.item
+
+abbrev pub parenthesised_tokens : {X : Type 0} → (X → Tokens) → Parenthesised X → Tokens
+parenthesised_tokens f parenthesised = listed one parenthesised.opened ++ f parenthesised.item ++ listed one parenthesised.closed
 
 abbrev pub body_tokens : {X : Type 0} → (X → Tokens) → Body X → Tokens
 body_tokens f body = one body.left ++ listed f body.items ++ one body.right
@@ -255,7 +261,8 @@ bind_level (Bind-F.Bind::Object left properties rest right) = one left ++ listed
 abbrev pub target_level : Target-F Tokens Tokens Tokens Tokens Tokens Tokens Tokens Tokens Tokens Tokens Tokens Tokens Tokens Tokens Tokens Tokens Tokens Tokens Tokens Tokens Tokens Tokens Tokens Tokens → Tokens
 target_level (Target-F.Target::Name name) = one name
 target_level (Target-F.Member member) = inner member
-target_level (Target-F.Target::Paren left target right) = one left ++ inner target ++ one right
+target_level (Target-F.ParenName name) = parenthesised_tokens one name
+target_level (Target-F.ParenMember member) = parenthesised_tokens inner member
 target_level (Target-F.Target::Array left elements rest right) = one left ++ listed (separated_tokens (opt inner)) elements ++ opt (rest_tokens inner) rest ++ one right
 target_level (Target-F.Target::Object left properties rest right) = one left ++ listed (separated_tokens inner) properties ++ opt (rest_tokens inner) rest ++ one right
 
@@ -303,7 +310,7 @@ primary_level (Primary-F.Primary::Array left elements right) = one left ++ liste
 primary_level (Primary-F.Primary::Object left members right) = one left ++ listed (separated_tokens inner) members ++ one right
 primary_level (Primary-F.Primary::Func func) = inner func
 primary_level (Primary-F.Primary::Class class) = inner class
-primary_level (Primary-F.Primary::Paren left expr right) = one left ++ expr_of_tokens inner expr ++ one right
+primary_level (Primary-F.Paren left expr right) = one left ++ expr_of_tokens inner expr ++ one right
 
 abbrev pub base_level : Base-F Tokens Tokens Tokens Tokens Tokens Tokens Tokens Tokens Tokens Tokens Tokens Tokens Tokens Tokens Tokens Tokens Tokens Tokens Tokens Tokens Tokens Tokens Tokens Tokens → Tokens
 base_level (Base-F.Primary primary) = inner primary
@@ -429,9 +436,15 @@ clause_tokens (clause_v.Named named) = named_tokens named
 clause_tokens (clause_v.NameSpace name comma space) = one name ++ one comma ++ space_tokens space
 clause_tokens (clause_v.NameNamed name comma named) = one name ++ one comma ++ named_tokens named
 
+abbrev pub attribute_tokens : Attribute → Tokens
+attribute_tokens attribute = one attribute.key ++ one attribute.colon ++ one attribute.value
+
+abbrev pub with_tokens : With → Tokens
+with_tokens with = one with.word ++ one with.left ++ listed (separated_tokens attribute_tokens) with.list ++ one with.right
+
 abbrev pub import_tokens : Import → Tokens
-import_tokens (import_v.Bare word request semi) = one word ++ one request ++ opt one semi
-import_tokens (import_v.From word clause from_word request semi) = one word ++ clause_tokens clause ++ one from_word ++ one request ++ opt one semi
+import_tokens (import_v.Bare word request attributes semi) = one word ++ one request ++ opt with_tokens attributes ++ opt one semi
+import_tokens (import_v.From word clause from_word request attributes semi) = one word ++ clause_tokens clause ++ one from_word ++ one request ++ opt with_tokens attributes ++ opt one semi
 
 abbrev pub renamed_tokens : Renamed → Tokens
 renamed_tokens renamed = one renamed.word ++ one renamed.name
@@ -443,9 +456,9 @@ abbrev pub names_tokens : Names → Tokens
 names_tokens names = one names.left ++ listed (separated_tokens export_name_tokens) names.list ++ one names.right
 
 abbrev pub export_tokens : Export → Tokens
-export_tokens (export_v.All word star from_word request semi) = one word ++ one star ++ one from_word ++ one request ++ opt one semi
-export_tokens (export_v.Space word star as_word name from_word request semi) = one word ++ one star ++ one as_word ++ one name ++ one from_word ++ one request ++ opt one semi
-export_tokens (export_v.From word names from_word request semi) = one word ++ names_tokens names ++ one from_word ++ one request ++ opt one semi
+export_tokens (export_v.All word star from_word request attributes semi) = one word ++ one star ++ one from_word ++ one request ++ opt with_tokens attributes ++ opt one semi
+export_tokens (export_v.Space word star as_word name from_word request attributes semi) = one word ++ one star ++ one as_word ++ one name ++ one from_word ++ one request ++ opt with_tokens attributes ++ opt one semi
+export_tokens (export_v.From word names from_word request attributes semi) = one word ++ names_tokens names ++ one from_word ++ one request ++ opt with_tokens attributes ++ opt one semi
 export_tokens (export_v.Names word names semi) = one word ++ names_tokens names ++ opt one semi
 export_tokens (export_v.Var word var) = one word ++ var_of_tokens decl_tokens var
 export_tokens (export_v.Lex word lex) = one word ++ lex_of_tokens decl_tokens lex

@@ -1,7 +1,7 @@
 use crate::parts::{
     ArgsOf, Argument, Arms, ArrowParams, BinaryOf, Body, CatchParameter, Else, ExprOf, Extends,
-    Finally, Initializer, KeyOf, LexOf, PropertyKey, Rest, SecondArgument, Separated, SuffixOf,
-    Template, VarOf, Yielded,
+    Finally, Initializer, KeyOf, LexOf, Parenthesised, PropertyKey, Rest, SecondArgument,
+    Separated, SuffixOf, Template, VarOf, Yielded,
 };
 use crate::tokens::Token;
 use sqlite_items::{Boxed, Items};
@@ -26,8 +26,8 @@ pub type Binary = BinaryOf<Operand>;
 pub enum Item {
     Stmt(Stmt),
     Lex(Lex),
-    Func(Func),
-    Class(Class),
+    Func(Boxed<Func>),
+    Class(Boxed<Class>),
 }
 
 /// Decl: Bind (`=` Assign)?; also a parameter and an element of a pattern
@@ -54,7 +54,7 @@ pub enum Stmt {
     Empty(Token),
     Var(Var),
     If(Token, Token, Expr, Token, Boxed<Stmt>, Option<Else<Boxed<Stmt>>>),
-    For(For),
+    For(Boxed<For>),
     While(Token, Token, Expr, Token, Boxed<Stmt>),
     Do(Token, Boxed<Stmt>, Token, Token, Expr, Token, Option<Token>),
     Continue(Token, Option<Token>, Option<Token>),
@@ -66,11 +66,11 @@ pub enum Stmt {
     Throw(Token, Expr, Option<Token>),
     TryCatch(
         Token,
-        Body<Item>,
+        Boxed<Body<Item>>,
         Token,
-        Option<CatchParameter<Bind>>,
-        Body<Item>,
-        Option<Finally<Item>>,
+        Option<Boxed<CatchParameter<Bind>>>,
+        Boxed<Body<Item>>,
+        Option<Boxed<Finally<Item>>>,
     ),
     TryFinally(Token, Body<Item>, Finally<Item>),
     Debugger(Token, Option<Token>),
@@ -142,7 +142,7 @@ pub struct Class {
 #[derive(Drop)]
 pub enum Element {
     Empty(Token),
-    Method(Option<Token>, Method),
+    Method(Option<Token>, Boxed<Method>),
     Field(Option<Token>, Key, Option<Initializer<Boxed<Assign>>>, Option<Token>),
     Static(Token, Body<Item>),
 }
@@ -179,7 +179,8 @@ pub enum Bind {
 pub enum Target {
     Name(Token),
     Member(LHS),
-    Paren(Token, Boxed<Target>, Token),
+    ParenName(Boxed<Parenthesised<Token>>),
+    ParenMember(Boxed<Parenthesised<LHS>>),
     Array(Token, Items<Separated<Option<TargetPart>>>, Option<Rest<Boxed<Target>>>, Token),
     Object(Token, Items<Separated<TargetPart>>, Option<Rest<Boxed<Target>>>, Token),
 }
@@ -198,9 +199,9 @@ pub struct TargetPart {
 #[derive(Drop)]
 pub enum Assign {
     Cond(Cond),
-    Arrow(Arrow),
-    Set(Target, Token, Boxed<Assign>),
-    Compound(Target, Token, Boxed<Assign>),
+    Arrow(Boxed<Arrow>),
+    Set(Boxed<Target>, Token, Boxed<Assign>),
+    Compound(Boxed<Target>, Token, Boxed<Assign>),
     Yield(Token, Option<Yielded<Boxed<Assign>>>),
 }
 
@@ -217,7 +218,7 @@ pub enum Arrow {
 #[derive(Drop)]
 pub struct Cond {
     pub test: Binary,
-    pub arms: Option<Arms<Boxed<Assign>>>,
+    pub arms: Option<Boxed<Arms<Boxed<Assign>>>>,
 }
 
 /// Operand: Private | prefix Operand | `await` Operand | (`++` `--`) simple Target | LHS | simple Target ~(`++` `--`)
@@ -227,9 +228,9 @@ pub enum Operand {
     Private(Token),
     Prefix(Token, Boxed<Operand>),
     Await(Token, Boxed<Operand>),
-    Update(Token, Target),
+    Update(Token, Boxed<Target>),
     LHS(LHS),
-    Postfix(Target, Token),
+    Postfix(Boxed<Target>, Token),
 }
 
 /// LHS: a base and suffixes
@@ -246,7 +247,7 @@ pub struct LHS {
 pub enum Member {
     Shorthand(Token),
     Pair(Key, Token, Boxed<Assign>),
-    Method(Method),
+    Method(Boxed<Method>),
     Spread(Token, Boxed<Assign>),
 }
 
@@ -261,8 +262,8 @@ pub enum Primary {
     Regex(Token),
     Array(Token, Items<Separated<Option<Argument<Assign>>>>, Token),
     Object(Token, Items<Separated<Member>>, Token),
-    Func(Func),
-    Class(Class),
+    Func(Boxed<Func>),
+    Class(Boxed<Class>),
     Paren(Token, Expr, Token),
 }
 
@@ -272,14 +273,14 @@ pub enum Primary {
 pub enum Base {
     Primary(Primary),
     Super(Token),
-    New(Token, Boxed<LHS>, Option<Args>),
+    New(Token, Boxed<LHS>, Option<Boxed<Args>>),
     NewTarget(Token, Token, Token),
     ImportMeta(Token, Token, Token),
     Import(
         Token,
         Token,
         Boxed<Assign>,
-        Option<SecondArgument<Boxed<Assign>>>,
+        Option<Boxed<SecondArgument<Boxed<Assign>>>>,
         Option<Token>,
         Token,
     ),

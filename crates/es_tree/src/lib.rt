@@ -13,11 +13,11 @@ pub use cycle::{
 };
 pub use parts::{
     ArgsOf, Argument, Arms, ArrowParams, BinaryOf, Body, CatchParameter, Else, ExprOf, Extends,
-    Finally, Initializer, Joined, KeyOf, LexOf, Piece, PropertyKey, Rest, SecondArgument,
-    Separated, SuffixOf, Template, VarOf, Yielded,
+    Finally, Initializer, Joined, KeyOf, LexOf, Parenthesised, Piece, PropertyKey, Rest,
+    SecondArgument, Separated, SuffixOf, Template, VarOf, Yielded,
 };
 pub use program::{
-    Clause, Export, ExportName, Import, ImportName, Named, Names, Program, ProgramItem, Renamed,
-    Space,
+    Attribute, Clause, Export, ExportName, Import, ImportName, Named, Names, Program, ProgramItem,
+    Renamed, Space, With,
 };
 pub use tokens::{Goal, LexFault, ProgramGoal, Token, TokenKind};

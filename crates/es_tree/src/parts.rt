@@ -22,6 +22,14 @@ pub struct Rest<T> {
     pub item: T,
 }
 
+/// Of Target: what stands in parentheses, with a `)` for each `(`
+#[derive(Drop)]
+pub struct Parenthesised<T> {
+    pub opened: Items<Token>,
+    pub item: T,
+    pub closed: Items<Token>,
+}
+
 /// Block, or a body: `{` Item* `}`
 #[derive(Drop)]
 pub struct Body<I> {

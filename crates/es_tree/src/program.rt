@@ -1,7 +1,7 @@
 use crate::cycle::{Assign, Class, Func, Item, Lex, Var};
 use crate::parts::Separated;
 use crate::tokens::{ProgramGoal, Token};
-use sqlite_items::Items;
+use sqlite_items::{Boxed, Items};
 
 /// Space: `*` `as` Name
 #[derive(Clone, Copy, Debug)]
@@ -36,11 +36,28 @@ pub enum Clause {
     NameNamed(Token, Token, Named),
 }
 
-/// Import: `import` String semi | `import` Clause `from` String semi
+/// Of With: (IdName | String) `:` String
+#[derive(Clone, Copy, Debug)]
+pub struct Attribute {
+    pub key: Token,
+    pub colon: Token,
+    pub value: Token,
+}
+
+/// With: `with` `{` list of attributes `}`
+#[derive(Drop)]
+pub struct With {
+    pub word: Token,
+    pub left: Token,
+    pub list: Items<Separated<Attribute>>,
+    pub right: Token,
+}
+
+/// Import: `import` String With? semi | `import` Clause `from` String With? semi
 #[derive(Drop)]
 pub enum Import {
-    Bare(Token, Token, Option<Token>),
-    From(Token, Clause, Token, Token, Option<Token>),
+    Bare(Token, Token, Option<With>, Option<Token>),
+    From(Token, Clause, Token, Token, Option<With>, Option<Token>),
 }
 
 /// Of Names: `as` IdName
@@ -68,9 +85,9 @@ pub struct Names {
 /// Export, by its forms; `export` and `export default` of a declaration have a variant for each kind
 #[derive(Drop)]
 pub enum Export {
-    All(Token, Token, Token, Token, Option<Token>),
-    Space(Token, Token, Token, Token, Token, Token, Option<Token>),
-    From(Token, Names, Token, Token, Option<Token>),
+    All(Token, Token, Token, Token, Option<With>, Option<Token>),
+    Space(Token, Token, Token, Token, Token, Token, Option<With>, Option<Token>),
+    From(Token, Names, Token, Token, Option<With>, Option<Token>),
     Names(Token, Names, Option<Token>),
     Var(Token, Var),
     Lex(Token, Lex),
@@ -85,8 +102,8 @@ pub enum Export {
 #[derive(Drop)]
 pub enum ProgramItem {
     Item(Item),
-    Import(Import),
-    Export(Export),
+    Import(Boxed<Import>),
+    Export(Boxed<Export>),
 }
 
 /// Script: Item*. Module: (Item | Import | Export)*

@@ -23,12 +23,12 @@ pub enum TokenKind {
 #[derive(Clone, Copy, Debug, PartialEq, Eq)]
 pub struct Token {
     pub kind: TokenKind,
+    /// Whether a LineTerminator stands between the place that was read from and the token.
+    pub newline: bool,
     /// The place of its first byte.
     pub start: u32,
     /// The place behind its last byte.
     pub end: u32,
-    /// Whether a LineTerminator stands between the place that was read from and the token.
-    pub newline: bool,
 }
 
 /// The goal symbol of the lexical grammar, which tells what `/` and `}` begin.

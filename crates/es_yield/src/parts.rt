@@ -1,12 +1,12 @@
 // Tokens of the parts that several productions have.
-ghost use Rattle.es_tree.specs.Yield.{args_of_tokens, argument_tokens, arms_tokens, arrow_params_tokens, binary_of_tokens, body_tokens, catch_parameter_tokens, else_tokens, expr_of_tokens, extends_tokens, finally_tokens, initializer_tokens, joined_tokens, key_of_tokens, lex_of_tokens, piece_tokens, property_key_tokens, rest_tokens, second_argument_tokens, suffix_of_tokens, template_tokens, var_of_tokens, yielded_tokens};
+ghost use Rattle.es_tree.specs.Yield.{args_of_tokens, argument_tokens, arms_tokens, arrow_params_tokens, binary_of_tokens, body_tokens, catch_parameter_tokens, else_tokens, expr_of_tokens, extends_tokens, finally_tokens, initializer_tokens, joined_tokens, key_of_tokens, lex_of_tokens, parenthesised_tokens, piece_tokens, property_key_tokens, rest_tokens, second_argument_tokens, suffix_of_tokens, template_tokens, var_of_tokens, yielded_tokens};
 
 use crate::sink::Sink;
 use crate::yields::Yields;
 use es_tree::{
     ArgsOf, Argument, Arms, ArrowParams, BinaryOf, Body, CatchParameter, Else, ExprOf, Extends,
-    Finally, Initializer, Joined, KeyOf, LexOf, Piece, PropertyKey, Rest, SecondArgument, SuffixOf,
-    Template, VarOf, Yielded,
+    Finally, Initializer, Joined, KeyOf, LexOf, Parenthesised, Piece, PropertyKey, Rest,
+    SecondArgument, SuffixOf, Template, VarOf, Yielded,
 };
 
 impl<A: Yields> Yields for Initializer<A> {
@@ -24,6 +24,16 @@ impl<T: Yields> Yields for Rest<T> {
     fn put(&self, out: &mut Sink) {
         self.dots.put(out);
         self.item.put(out);
+    }
+}
+
+impl<T: Yields> Yields for Parenthesised<T> {
+    ghost tokens = { parenthesised_tokens T.tokens };
+
+    fn put(&self, out: &mut Sink) {
+        self.opened.put(out);
+        self.item.put(out);
+        self.closed.put(out);
     }
 }
 

@@ -56,11 +56,8 @@ impl Yields for Target {
         match self {
             Target::Name(name) => name.put(out),
             Target::Member(member) => member.put(out),
-            Target::Paren(left, target, right) => {
-                left.put(out);
-                target.put(out);
-                right.put(out);
-            }
+            Target::ParenName(name) => name.put(out),
+            Target::ParenMember(member) => member.put(out),
             Target::Array(left, elements, rest, right) => {
                 left.put(out);
                 elements.put(out);

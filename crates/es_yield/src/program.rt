@@ -1,12 +1,12 @@
 // Tokens of programs, imports and exports.
-ghost use Rattle.es_tree.specs.Yield.{clause_tokens, export_name_tokens, export_tokens, import_name_tokens, import_tokens, named_tokens, names_tokens, program_item_tokens, program_tokens, renamed_tokens, space_tokens};
+ghost use Rattle.es_tree.specs.Yield.{attribute_tokens, clause_tokens, export_name_tokens, export_tokens, import_name_tokens, import_tokens, named_tokens, names_tokens, program_item_tokens, program_tokens, renamed_tokens, space_tokens, with_tokens};
 ghost use Rattle.std.specs.Prelude.{◌≡◌, IfOk};
 
 use crate::sink::Sink;
 use crate::yields::Yields;
 use es_tree::{
-    Clause, Export, ExportName, Import, ImportName, Named, Names, Program, ProgramItem, Renamed,
-    Space, Token,
+    Attribute, Clause, Export, ExportName, Import, ImportName, Named, Names, Program, ProgramItem,
+    Renamed, Space, Token, With,
 };
 use std::alloc::{AllocError, Global};
 
@@ -44,19 +44,42 @@ impl Yields for Import {
 
     fn put(&self, out: &mut Sink) {
         match self {
-            Import::Bare(word, request, semi) => {
+            Import::Bare(word, request, attributes, semi) => {
                 word.put(out);
                 request.put(out);
+                attributes.put(out);
                 semi.put(out);
             }
-            Import::From(word, clause, from_word, request, semi) => {
+            Import::From(word, clause, from_word, request, attributes, semi) => {
                 word.put(out);
                 clause.put(out);
                 from_word.put(out);
                 request.put(out);
+                attributes.put(out);
                 semi.put(out);
             }
         }
+    }
+}
+
+impl Yields for With {
+    ghost tokens = { with_tokens };
+
+    fn put(&self, out: &mut Sink) {
+        self.word.put(out);
+        self.left.put(out);
+        self.list.put(out);
+        self.right.put(out);
+    }
+}
+
+impl Yields for Attribute {
+    ghost tokens = { attribute_tokens };
+
+    fn put(&self, out: &mut Sink) {
+        self.key.put(out);
+        self.colon.put(out);
+        self.value.put(out);
     }
 }
 
@@ -122,27 +145,30 @@ impl Yields for Export {
 
     fn put(&self, out: &mut Sink) {
         match self {
-            Export::All(word, star, from_word, request, semi) => {
+            Export::All(word, star, from_word, request, attributes, semi) => {
                 word.put(out);
                 star.put(out);
                 from_word.put(out);
                 request.put(out);
+                attributes.put(out);
                 semi.put(out);
             }
-            Export::Space(word, star, as_word, name, from_word, request, semi) => {
+            Export::Space(word, star, as_word, name, from_word, request, attributes, semi) => {
                 word.put(out);
                 star.put(out);
                 as_word.put(out);
                 name.put(out);
                 from_word.put(out);
                 request.put(out);
+                attributes.put(out);
                 semi.put(out);
             }
-            Export::From(word, names, from_word, request, semi) => {
+            Export::From(word, names, from_word, request, attributes, semi) => {
                 word.put(out);
                 names.put(out);
                 from_word.put(out);
                 request.put(out);
+                attributes.put(out);
                 semi.put(out);
             }
             Export::Names(word, names, semi) => {

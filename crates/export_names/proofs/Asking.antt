@@ -15,7 +15,7 @@ use Rattle.pk_types.specs.declared.facts.Kind.{Kind}
 use Rattle.pk_types.specs.declared.facts.Kind.TheVariants.{Es}
 use Rattle.pk_types.specs.declared.graph.Graph.{Graph}
 use Rattle.pk_types.specs.declared.graph.Row.{Row}
-use Rattle.pk_types.specs.declared.text.Key.{Key}
+use Rattle.pk_text.specs.declared.text.Key.{Key}
 use Rattle.pk_types.specs.declared.found.Found.TheVariants.{Foreign, Nothing}
 use Rattle.pk_types.specs.Resolving.{Pair, kind_at, IsFirst, ResolvesTo, foreign, circular}
 use Rattle.export_names.specs.declared.step.Step.{Step}

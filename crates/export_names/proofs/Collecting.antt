@@ -10,7 +10,7 @@ use Rattle.indexmap.specs.IndexSet.{insert_key}
 use Rattle.indexmap.proofs.CallerLemmas.{Contains-insert_key}
 use Rattle.pk_types.specs.declared.facts.ExportEntry.{ExportEntry}
 use Rattle.pk_types.specs.declared.graph.Graph.{Graph}
-use Rattle.pk_types.specs.declared.text.Key.{Key}
+use Rattle.pk_text.specs.declared.text.Key.{Key}
 use Rattle.pk_types.specs.ExportedNames.{ExportsItself}
 use Rattle.pk_types.specs.Resolving.{default_name}
 use Rattle.export_names.proofs.Indexing.{any_name}

@@ -9,7 +9,7 @@ use Rattle.std.proofs.lemmas.Iterator.Adapters.{position_from-zero}
 use Rattle.std.proofs.lemmas.Map.Keys.{apart_from_distinct}
 use Rattle.indexmap.specs.IndexSet.{insert_key}
 use Rattle.pk_types.specs.declared.facts.ExportEntry.{ExportEntry}
-use Rattle.pk_types.specs.declared.text.Key.{Key}
+use Rattle.pk_text.specs.declared.text.Key.{Key}
 use Rattle.export_names.specs.Indexed.{HaveApartNames, export_names}
 
 -- a test of keys that asks for their names alone

@@ -3,7 +3,7 @@ use Rattle.std.specs.Prelude.{◌≡◌, ◌≢◌, ◌↔◌, ◌⊎◌, Bool, 
 use Rattle.std.specs.List.{Contains}
 use Rattle.pk_types.specs.declared.facts.ExportEntry.{ExportEntry}
 use Rattle.pk_types.specs.declared.graph.Graph.{Graph}
-use Rattle.pk_types.specs.declared.text.Key.{Key}
+use Rattle.pk_text.specs.declared.text.Key.{Key}
 use Rattle.pk_types.specs.ExportedNames.{ExportsItself}
 use Rattle.pk_types.specs.Resolving.{default_name}
 

@@ -5,7 +5,7 @@ use Rattle.std.specs.Str.{bytes_eq}
 use Rattle.pk_types.specs.declared.facts.ExportEntry.{ExportEntry}
 use Rattle.indexmap.specs.IndexMap.{IndexMap, get}
 use Rattle.indexmap.specs.IndexSet.{IndexSet}
-use Rattle.pk_types.specs.declared.text.Key.{Key}
+use Rattle.pk_text.specs.declared.text.Key.{Key}
 use Rattle.pk_types.specs.declared.graph.Graph.{Graph}
 
 abbrev pub export_names : List ExportEntry → List (List ℕ)

@@ -6,7 +6,7 @@ use Rattle.pk_types.specs.declared.facts.Origin.{Origin}
 use Rattle.pk_types.specs.declared.facts.Origin.TheVariants.{Own, Other, Space}
 use Rattle.pk_types.specs.declared.graph.Graph.{Graph}
 use Rattle.pk_types.specs.declared.graph.Row.{Row}
-use Rattle.pk_types.specs.declared.text.Key.{Key}
+use Rattle.pk_text.specs.declared.text.Key.{Key}
 use Rattle.pk_types.specs.declared.found.Found.{Found}
 use Rattle.pk_types.specs.declared.found.Found.TheVariants.{Ambiguous}
 use Rattle.pk_types.specs.Joined.{joined}

@@ -52,6 +52,7 @@ fn requests_of(alloc: Global, count: u32) -> Result<Vec<Request>, AllocError>
         requests.push(Request {
             text: Text::from_slice(alloc, b"")?,
             form: Form::Import,
+            json: false,
         })?;
     }
     Ok(requests)

@@ -28,7 +28,7 @@ use Rattle.es_tree.specs.declared.cycle.Params.{Params}
 use Rattle.es_tree.specs.declared.cycle.TargetPart.{TargetPart}
 use Rattle.es_tree.specs.declared.cycle.Arrow.TheOpen.{Operand-F}
 use Rattle.es_tree.specs.declared.cycle.Operand.TheVariants as operand_v
-use Rattle.es_grammar.specs.Contexts.{Context}
+use Rattle.es_grammar.specs.declared.places.Context.{Context}
 use Rattle.es_grammar.specs.Reading.{Bytes, spelled}
 use Rattle.es_grammar.specs.Functions.{BindPatternAt}
 use Rattle.es_grammar.specs.Expressions.{LHSAt}

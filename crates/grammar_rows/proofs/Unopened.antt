@@ -32,14 +32,14 @@ use Rattle.es_tree.specs.declared.cycle.Primary.{Primary}
 use Rattle.es_tree.specs.declared.cycle.Base.{Base}
 use Rattle.es_tree.specs.declared.program.Program.{Program}
 use Rattle.es_tree.specs.declared.program.ProgramItem.{ProgramItem}
-use Rattle.es_grammar.specs.Contexts.{Context}
+use Rattle.es_grammar.specs.declared.places.Context.{Context}
 use Rattle.es_grammar.specs.Reading.{Bytes, spelled, IsAt, KindAt, OneOfWordsAt, NameAt, WordAt}
-use Rattle.es_grammar.specs.Semicolons.{Stop}
+use Rattle.es_grammar.specs.declared.places.Stop.{Stop}
 use Rattle.es_grammar.specs.Rules.{Rules}
 use Rattle.es_grammar.specs.Lists.{Chain, EndedListAt}
 use Rattle.es_grammar.specs.Functions.{ClosedItemAt, BodyAt, AsyncAt, FuncAt, ArrowParamsAt, ArrowAt, ClassAt}
 use Rattle.es_grammar.specs.Expressions.{Expr, literal_words, ExprAt, TemplateAt, PrimaryAt, BaseAt, ImportCallAt, LHSAt, NewAt}
-use Rattle.es_grammar.specs.Targets.{SimpleTargetAt, TargetAt, TargetPatternAt}
+use Rattle.es_grammar.specs.Targets.{ParenthesisedAt, SimpleTargetAt, TargetAt, TargetPatternAt}
 use Rattle.es_grammar.specs.Operators.{prefix_words, OperandAt, PrefixedAt, ListedAt, BinaryAt, CondAt, AssignAt}
 use Rattle.es_grammar.specs.Statements.{LexicalAt, Lex, Var, LexAt, VarAt, ForAt, StmtAt, ItemAt}
 use Rattle.es_grammar.specs.declared.TheConstants.{MAX_NEST}
@@ -158,7 +158,8 @@ lhs_no b (LHSAt.super _ _ _ h _ _ _) = no_word_at b.foreign refl h
 simple_target_no : {text : Bytes} {r : Rules} {c : Context} {p : ℕ} {x : Target} {q : ℕ} → Bare text r p → SimpleTargetAt text r c p x q → ⊥
 simple_target_no b (SimpleTargetAt.name _ h) = no_name_at b.foreign h
 simple_target_no b (SimpleTargetAt.member _ h _) = lhs_no b h
-simple_target_no b (SimpleTargetAt.paren _ _ _ h _ _) = no_kind_at b.foreign refl h.is
+simple_target_no b (SimpleTargetAt.paren_name _ (ParenthesisedAt.parenthesised _ _ _ _ h _ _ _ _)) = no_kind_at b.foreign refl h.is
+simple_target_no b (SimpleTargetAt.paren_member _ (ParenthesisedAt.parenthesised _ _ _ _ h _ _ _ _)) = no_kind_at b.foreign refl h.is
 
 operand_no : {text : Bytes} {r : Rules} {c : Context} {p : ℕ} {x : Operand} {s : Stop} → Bare text r p → c.has_await ≡ false → OperandAt text r c p x s → ⊥
 operand_no b low (OperandAt.prefixed _ h) = b.no_prefixed _ _ _ low h

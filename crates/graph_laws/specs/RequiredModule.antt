@@ -15,7 +15,7 @@ use Rattle.graph_laws.specs.SharedLater.{plain}
 
 -- require("./a.js"); import("./v2.js");
 abbrev pub requirer : Row
-requirer = plain (codes "src/index.js") Cjs (record { text = codes "./a.js"; form = form.Require } ∷ asks (codes "./v2.js") ∷ []) []
+requirer = plain (codes "src/index.js") Cjs (record { text = codes "./a.js"; form = form.Require; json = false } ∷ asks (codes "./v2.js") ∷ []) []
     (record { kind = Require 0; start = 0; end = 17 } ∷ record { kind = Import 1; start = 19; end = 36 } ∷ []) (codes "require" ∷ []) (1 ∷ 2 ∷ []) 38
 
 -- export { v1 } from "./c.js";

@@ -23,7 +23,7 @@ v3 = codes "v3"
 
 -- an import of this text
 abbrev pub asks : List ℕ → Request
-asks text = record { text = text; form = form.Import }
+asks text = record { text = text; form = form.Import; json = false }
 
 -- import { v2 } from "lib"; use(v2);
 abbrev pub user : Row

@@ -17,7 +17,7 @@ use std::io;
 const SHOWN: usize = 8;
 
 // More rounds than a graph has modules.
-const ROUNDS: u32 = 20_000;
+const ROUNDS: u32 = 40_000;
 
 // The facts of a CommonJS module with these requests.
 fn requiring(alloc: Global, requests: Sequence<Request>) -> Facts
@@ -47,6 +47,7 @@ fn facts_with(alloc: Global, requests: u32) -> Result<Facts, AllocError>
         list.push(Request {
             text: Text::from_slice(alloc, b"")?,
             form: Form::Require,
+            json: false,
         })?;
     }
     Ok(requiring(alloc, Sequence::from_vec(list)))

@@ -6,11 +6,14 @@ use Rattle.std.proofs.lemmas.List.{length-map, length-append, length_push, map-a
 use Rattle.std.proofs.lemmas.List.Elements.{All-nil, All-append, All-map, All-push}
 use Rattle.std.proofs.lemmas.Map.Keys.{IsDistinct-from_apart}
 use Rattle.pk_base.specs.Paths.{is_path}
+use Rattle.pk_types.specs.declared.limits.TheConstants.{MAX_MODULES}
 use Rattle.pk_types.specs.declared.facts.Facts.{Facts}
+use Rattle.pk_types.specs.declared.facts.Kind.TheVariants.{Cjs}
 use Rattle.pk_types.specs.declared.graph.Graph.{Graph}
 use Rattle.pk_types.specs.declared.graph.Row.{Row}
 use Rattle.pk_types.specs.Fitting.{AreFitting, RowFits, Fits}
-use Rattle.module_graph.specs.Building.{Building, IsWanting, wanted_path, row_of, no_facts, leaf_of, so_far}
+use Rattle.pk_types.proofs.FittingNone.{no_facts_fit}
+use Rattle.module_graph.specs.Building.{Building, IsWanting, wanted_path, row_of, leaf_of, so_far}
 use Rattle.module_graph.specs.Known.{with_paths, numbers_in, number_in}
 use Rattle.module_graph.specs.ModuleOrder.{IsModuleOrder}
 use Rattle.module_graph.specs.Sightings.{count_after, RowsAreSeenInOrder}
@@ -27,7 +30,7 @@ targets_of row = row.targets
 
 -- ---- none added yet
 
-pub starts : (paths : List (List ℕ)) → length paths < 2 ^ 32 → length (with_paths [] paths) ≤ 16384
+pub starts : (paths : List (List ℕ)) → length paths < 2 ^ 32 → length (with_paths [] paths) ≤ MAX_MODULES
     → IsSound (record { known = with_paths [] paths; rows = []; entries = numbers_in (with_paths [] paths) paths })
 starts paths short few = record {
   few = few;
@@ -45,38 +48,6 @@ labels_of_leaves : (paths : List (List ℕ)) → map label_of (map leaf_of paths
 labels_of_leaves [] = refl
 labels_of_leaves (path ∷ paths) = ap (λ l. path ∷ l) (labels_of_leaves paths)
 
-no_facts_fit : AreFitting no_facts
-no_facts_fit = record {
-  places = record {
-    order = All-nil _;
-    stars = All-nil _;
-    imports = All-nil _;
-    export_requests = All-nil _;
-    export_bindings = All-nil _;
-    site_bindings = All-nil _;
-    site_imports = All-nil _;
-    site_spaces = All-nil _;
-    site_calls = All-nil _;
-  };
-  lawful = record {
-    bindings = IsDistinct-from_apart _ [] (λ i j d h k. absurd (omega arith));
-    exports = IsDistinct-from_apart _ [] (λ i j d h k. absurd (omega arith));
-    order = IsDistinct-from_apart _ [] (λ i j d h k. absurd (omega arith));
-    kind = record { order = refl; imports = refl; exports = refl; stars = refl; calls = All-nil _ };
-  };
-  short = record {
-    requests = omega arith;
-    order = omega arith;
-    imports = omega arith;
-    exports = omega arith;
-    stars = omega arith;
-    bindings = omega arith;
-    sites = omega arith;
-    free = omega arith;
-    inner = omega arith;
-  };
-}
-
 -- ---- one more
 
 labels_push : (known : List (List ℕ)) (paths : List (List ℕ)) (n : ℕ) → n < length known → take n known ++ get_or known n [] ∷ [] ≡ take (n + 1) (with_paths known paths)
@@ -89,7 +60,7 @@ module _ (known : List (List ℕ)) (rows : List Row) (entries : List ℕ) where
   before = record { known = known; rows = rows; entries = entries }
 
   pub adds : IsSound before → IsWanting before → (facts : Facts) (paths : List (List ℕ)) (flagged : Bool) (size : ℕ) → AreFitting facts → length paths ≡ length facts.requests
-      → length (with_paths known paths) ≤ 16384 → IsTrue (is_path (wanted_path before))
+      → length (with_paths known paths) ≤ MAX_MODULES → IsTrue (is_path (wanted_path before))
       → IsSound (record { known = with_paths known paths; rows = rows ++ row_of before (with_paths known paths) facts paths flagged size ∷ []; entries = entries })
   adds sound wanted facts paths flagged size fitting each few path =
       let row : Row = row_of before (with_paths known paths) facts paths flagged size in
@@ -136,7 +107,7 @@ module _ (building : Building) where
               targets = subst (λ n. All (λ number. number < n) (get_or building.rows k d).targets) (sym (count_so_far sound))
                   (subst (All (λ n. n < length building.known)) (get_or-map targets_of building.rows k d (targets_of d) h) (numbered k (targets_of d) (omega (arith, length-map building.rows targets_of))));
             })
-            (All-map (RowFits (so_far building)) leaf_of further (λ k d h. record { facts = no_facts_fit; each = refl; targets = All-nil _ }));
+            (All-map (RowFits (so_far building)) leaf_of further (λ k d h. record { facts = no_facts_fit Cjs; each = refl; targets = All-nil _ }));
         entries = known_within building.entries (count_after 0 building.entries) (length (so_far building).rows)
             (omega (arith, count_so_far sound, no_fewer_rows targets 0 first (length building.known) sound.next)) (within building.entries 0 sound.first);
         few_rows = omega (arith, sound.few, count_so_far sound);

@@ -4,6 +4,7 @@ use Rattle.pk_types.specs.declared.facts.Facts.{Facts}
 use Rattle.pk_types.specs.declared.facts.Kind.TheVariants.{Cjs}
 use Rattle.pk_types.specs.declared.graph.Graph.{Graph}
 use Rattle.pk_types.specs.declared.graph.Row.{Row}
+use Rattle.pk_types.specs.NoFacts.{no_facts}
 use Rattle.module_graph.specs.Known.{numbers_in}
 
 -- the paths of the modules by number, the rows of those that were added, and the modules of the entries
@@ -30,26 +31,11 @@ row_of building known facts targets flagged size = record {
   size = size;
 }
 
--- facts without an item; their kind is arbitrary
-abbrev pub no_facts : Facts
-no_facts = record {
-  kind = Cjs;
-  requests = [];
-  order = [];
-  imports = [];
-  exports = [];
-  stars = [];
-  bindings = [];
-  sites = [];
-  free = [];
-  inner = [];
-}
-
--- the row of a module of which the path alone is known; its flag and its size are arbitrary
+-- the row of a module of which the path alone is known; its kind, its flag and its size are arbitrary
 abbrev pub leaf_of : List ℕ → Row
 leaf_of path = record {
   label = path;
-  facts = no_facts;
+  facts = no_facts Cjs;
   targets = [];
   flagged = false;
   size = 0;

@@ -3,6 +3,7 @@ use Rattle.std.specs.Prelude.{◌≡◌, ◌≤◌, IsTrue, length, map, take}
 use Rattle.std.specs.List.{All, IsDistinct}
 use Rattle.std.specs.Str.{bytes_eq}
 use Rattle.pk_base.specs.Paths.{is_path}
+use Rattle.pk_types.specs.declared.limits.TheConstants.{MAX_MODULES}
 use Rattle.pk_types.specs.declared.graph.Row.{Row}
 use Rattle.pk_types.specs.Places.{IsShort}
 use Rattle.pk_types.specs.Fitting.{AreFitting}
@@ -16,7 +17,7 @@ pub record IsSoundRow (row : Row) : Type 0 where
   pub path : IsTrue (is_path row.label)
 
 pub record IsSound (building : Building) : Type 0 where
-  pub few : length building.known ≤ 16384
+  pub few : length building.known ≤ MAX_MODULES
   pub few_entries : IsShort building.entries
   pub distinct : IsDistinct bytes_eq building.known
   pub labels : map (λ row. row.label) building.rows ≡ take (length building.rows) building.known

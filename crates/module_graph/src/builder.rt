@@ -1,6 +1,7 @@
 ghost use Rattle.std.specs.Prelude.{◌≡◌, ◌<◌, ◌≤◌, ◌^◌, ℕ, List, [], ◌∷◌, ◌++◌, length, map, take, slice_get, Some, Err, IsTrue, IfOk, OnOk, OnErr, MatchOption};
 ghost use Rattle.std.specs.List.{All, Contains};
 ghost use Rattle.pk_base.specs.Paths.{is_path};
+ghost use Rattle.pk_types.specs.declared.limits.TheConstants.{MAX_MODULES};
 ghost use Rattle.pk_types.specs.Fitting.{AreFitting, Fits};
 ghost use Rattle.module_graph.specs.Building.{Building, IsWanting, row_of, so_far};
 ghost use Rattle.module_graph.specs.Known.{with_paths, numbers_in};
@@ -43,10 +44,13 @@ impl GraphBuilder {
         requires { length entries.items < 2 ^ 32 }
         ensures known { IfOk result (λ builder. builder.known ≡ with_paths [] entries.items) }
         ensures rows { IfOk result (λ builder. builder.rows ≡ []) }
-        ensures entries { IfOk result (λ builder. builder.entries ≡ numbers_in builder.known entries.items) }
-        ensures by_path { IfOk result (λ builder. map (slice_get builder.known) builder.entries ≡ map Some entries.items) }
-        ensures few { OnOk result (length (with_paths [] entries.items) ≤ 16384) }
-        ensures too_many { result ≡ Err GraphFault.TooMany → 16384 < length (with_paths [] entries.items) }
+        ensures entries { IfOk result (λ builder.
+            builder.entries ≡ numbers_in builder.known entries.items) }
+        ensures by_path { IfOk result (λ builder.
+            map (slice_get builder.known) builder.entries ≡ map Some entries.items) }
+        ensures few { OnOk result (length (with_paths [] entries.items) ≤ MAX_MODULES) }
+        ensures too_many { result ≡ Err GraphFault.TooMany
+            → MAX_MODULES < length (with_paths [] entries.items) }
     {
         let mut known = IndexSet::new(alloc);
         let entries = number(alloc, &mut known, entries)?;
@@ -83,7 +87,8 @@ impl GraphBuilder {
 
     /// The number of the module at a path, if it is known.
     pub fn number_of(&self, path: &Path) -> Option<u32>
-        ensures { MatchOption result (¬ Contains self.now.known path.now) (λ number. slice_get self.now.known number ≡ Some path.now) }
+        ensures { MatchOption result (¬ Contains self.now.known path.now)
+            (λ number. slice_get self.now.known number ≡ Some path.now) }
     {
         let number = self.known.get_index_of(path)?;
         Some(number as u32)
@@ -102,12 +107,15 @@ impl GraphBuilder {
         requires each { length targets.items ≡ length facts.requests }
         requires facts { AreFitting facts }
         ensures known { OnOk result (self.new.known ≡ with_paths self.old.known targets.items) }
-        ensures row { OnOk result (self.new.rows ≡ self.old.rows ++ row_of self.old self.new.known facts targets.items flagged size ∷ []) }
+        ensures row { OnOk result (self.new.rows ≡ self.old.rows
+            ++ row_of self.old self.new.known facts targets.items flagged size ∷ []) }
         ensures entries { OnOk result (self.new.entries ≡ self.old.entries) }
         ensures kept { OnOk result (take (length self.old.known) self.new.known ≡ self.old.known) }
-        ensures by_path { OnOk result (map (slice_get self.new.known) (numbers_in self.new.known targets.items) ≡ map Some targets.items) }
-        ensures few { OnOk result (length (with_paths self.old.known targets.items) ≤ 16384) }
-        ensures too_many { result ≡ Err GraphFault.TooMany → 16384 < length (with_paths self.old.known targets.items) }
+        ensures by_path { OnOk result (map (slice_get self.new.known)
+            (numbers_in self.new.known targets.items) ≡ map Some targets.items) }
+        ensures few { OnOk result (length (with_paths self.old.known targets.items) ≤ MAX_MODULES) }
+        ensures too_many { result ≡ Err GraphFault.TooMany
+            → MAX_MODULES < length (with_paths self.old.known targets.items) }
         ensures err { OnErr result (self.new ≡ self.old) }
     {
         let alloc = *self.rows.allocator();
@@ -136,7 +144,8 @@ impl GraphBuilder {
         ensures paths { All (λ row. IsTrue (is_path row.label)) result.rows }
         ensures fits { Fits result }
         ensures order { IsModuleOrder result }
-        ensures graph { (entries : List (List ℕ)) (leads : List ℕ → List (List ℕ)) → LeadsTo entries leads result → IsModuleGraph entries leads result }
+        ensures graph { (entries : List (List ℕ)) (leads : List ℕ → List (List ℕ))
+            → LeadsTo entries leads result → IsModuleGraph entries leads result }
     {
         let GraphBuilder { rows, entries, .. } = self;
         Graph {

@@ -3,9 +3,6 @@ ghost use Rattle.module_graph.specs.declared.fault.GraphFault.TheVariants.{NoMem
 
 use std::alloc::{AllocError, AllocFailed};
 
-/// The most modules that a graph has.
-pub const MAX_MODULES: usize = 16_384;
-
 /// What keeps a module from being added.
 #[derive(Clone, Copy, Debug, PartialEq, Eq)]
 pub enum GraphFault {

@@ -3,7 +3,7 @@ ghost use Rattle.std.specs.Prelude.{◌≡◌, ◌++◌, IfOk, OnOk, codes};
 ghost use Rattle.pack_cli.specs.Answers.{fault_text, what_text};
 ghost use Rattle.pack_cli.specs.Output.{file_line, file_lines, count_line, built_lines};
 
-use pk_base::Bytes;
+use pk_base::Text;
 use plan_core::OutFile;
 use std::alloc::{AllocError, Global};
 use watch_core::{BuildFault, What};
@@ -47,13 +47,13 @@ fn fault_text(alloc: Global, fault: &BuildFault) -> Result<Vec<u8>, AllocError>
 }
 
 /// The line of a tree that is refused.
-pub fn refused_line(alloc: Global, fault: &BuildFault) -> Result<Bytes, AllocError>
+pub fn refused_line(alloc: Global, fault: &BuildFault) -> Result<Text, AllocError>
     ensures { IfOk result (λ line. line ≡ codes "refused " ++ fault_text fault.now ++ codes "\n") }
 {
     let mut line = Vec::from_slice(alloc, b"refused ")?;
     line.extend_from_slice(fault_text(alloc, fault)?.as_slice())?;
     line.extend_from_slice(b"\n")?;
-    Ok(Bytes::from_vec(line))
+    Ok(Text::from_vec(line))
 }
 
 // Puts the line of a file behind lines.
@@ -104,11 +104,11 @@ pub fn built_lines(
     files: &[OutFile],
     modules: usize,
     groups: usize,
-) -> Result<Bytes, AllocError>
+) -> Result<Text, AllocError>
     ensures { IfOk result (λ lines. lines ≡ built_lines (record { files = files.now; modules = modules; groups = groups })) }
 {
     let mut lines = Vec::new(alloc);
     put_file_lines(alloc, &mut lines, files)?;
     put_count_line(alloc, &mut lines, modules, groups, files.len())?;
-    Ok(Bytes::from_vec(lines))
+    Ok(Text::from_vec(lines))
 }

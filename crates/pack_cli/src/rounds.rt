@@ -6,7 +6,7 @@ ghost use Rattle.pack_cli.specs.Round.{AsksFiles, HasLostPut, HoldsOutput, Round
 
 use crate::faults::RoundFault;
 use crate::print::built_lines;
-use pk_base::{Bytes, Failed, Files, Store};
+use pk_base::{Failed, Files, Store, Text};
 use pk_types::Plan;
 use plan_core::{OutFile, output, plan};
 use std::alloc::Global;
@@ -41,7 +41,7 @@ pub fn round<F: Files, O: Store>(
     alloc: Global,
     files: &mut F,
     out: &mut O,
-) -> Result<Bytes, RoundFault>
+) -> Result<Text, RoundFault>
     ensures asks { AsksFiles result (F.means files.old) (F.means files.new) }
     ensures rounds { Rounds result (F.means files.old) (F.means files.new) (O.means out.old) (O.means out.new) }
     ensures told { (O.means out.new).told ≡ (O.means out.old).told }

@@ -1,3 +1,4 @@
 mod Answered
 mod Members
 mod Merged
+mod NamedApart

@@ -2,6 +2,7 @@
 ghost use Rattle.std.specs.Prelude.{◌≡◌, ◌++◌, ◌∷◌, [], Some, None, true, false, IfOk, OnOk, codes, option_to_list, if◌then◌else◌};
 ghost use Rattle.std.specs.Ordering.{nat_cmp};
 ghost use Rattle.std.specs.Cmp.Lexicographic.{slice_cmp};
+ghost use Rattle.pk_types.specs.CacheGroups.{AreNamedApart};
 ghost use Rattle.serde_json.specs.View.{view, members_view};
 ghost use Rattle.pack_config.specs.Seen.{seen};
 ghost use Rattle.pack_config.specs.Settings.{group_default, replaced, group_of, if_kept, kept_groups, with_name, groups_of};
@@ -32,7 +33,8 @@ pub(crate) fn groups(
     shared: Shared,
     value: Option<&Value>,
 ) -> Result<Sequence<CacheGroup>, AllocError>
-    ensures { IfOk result (λ made. made ≡ groups_of shared (seen value.entry)) }
+    ensures made { IfOk result (λ made. made ≡ groups_of shared (seen value.entry)) }
+    ensures apart { IfOk result AreNamedApart }
 {
     let Some(value) = value else {
         return built_in_groups(alloc, shared);
@@ -44,7 +46,8 @@ pub(crate) fn groups(
 }
 
 fn built_in_groups(alloc: Global, shared: Shared) -> Result<Sequence<CacheGroup>, AllocError>
-    ensures { IfOk result (λ made. made ≡ groups_of shared None) }
+    ensures made { IfOk result (λ made. made ≡ groups_of shared None) }
+    ensures apart { IfOk result AreNamedApart }
 {
     let mut groups = Vec::new(alloc);
     push_built_in(alloc, &mut groups, shared, DEFAULT)?;
@@ -57,8 +60,9 @@ fn given_groups(
     shared: Shared,
     members: &Map<String, Value>,
 ) -> Result<Sequence<CacheGroup>, AllocError>
-    ensures { IfOk result (λ made.
+    ensures made { IfOk result (λ made.
         made ≡ kept_groups shared (both_due true true (members_view members.now.entries))) }
+    ensures apart { IfOk result AreNamedApart }
 {
     let mut groups = Vec::new(alloc);
     let mut default_due = true;

@@ -1,5 +1,6 @@
 //! Makes the settings of an object that has no fault.
-ghost use Rattle.std.specs.Prelude.{◌≡◌, ◌++◌, ◌∷◌, [], IfOk, OnOk, codes};
+ghost use Rattle.std.specs.Prelude.{◌≡◌, ◌++◌, ◌∷◌, [], IfOk, IfSome, OnOk, codes};
+ghost use Rattle.pk_types.specs.CacheGroups.{AreNamedApart, HasGroupsNamedApart};
 ghost use Rattle.serde_json.specs.View.{members_view};
 ghost use Rattle.pack_config.specs.Seen.{seen};
 ghost use Rattle.pack_config.specs.Settings.{split_of, split_unless_false, named_entries, entries_of, config_of};
@@ -13,7 +14,8 @@ use std::alloc::{AllocError, Global};
 
 /// The settings of an object. None stands for an object with no keys.
 pub(crate) fn settings(alloc: Global, object: Option<&Value>) -> Result<Config, AllocError>
-    ensures { IfOk result (λ made. made ≡ config_of (seen object.entry)) }
+    ensures made { IfOk result (λ made. made ≡ config_of (seen object.entry)) }
+    ensures apart { IfOk result HasGroupsNamedApart }
 {
     Ok(Config {
         entries: entries(alloc, member(object, "entry"))?,
@@ -83,7 +85,8 @@ fn split_unless_false(
     alloc: Global,
     value: Option<&Value>,
 ) -> Result<Option<SplitConfig>, AllocError>
-    ensures { IfOk result (λ made. made ≡ split_unless_false (seen value.entry)) }
+    ensures made { IfOk result (λ made. made ≡ split_unless_false (seen value.entry)) }
+    ensures apart { IfOk result (λ made. IfSome made (λ split. AreNamedApart split.groups)) }
 {
     match value {
         Some(given) if is_false(given) => Ok(None),
@@ -92,7 +95,8 @@ fn split_unless_false(
 }
 
 fn split(alloc: Global, object: Option<&Value>) -> Result<SplitConfig, AllocError>
-    ensures { IfOk result (λ made. made ≡ split_of (seen object.entry)) }
+    ensures made { IfOk result (λ made. made ≡ split_of (seen object.entry)) }
+    ensures apart { IfOk result (λ made. AreNamedApart made.groups) }
 {
     let shared = Shared {
         chunks: which(object, "chunks", Which::Async),

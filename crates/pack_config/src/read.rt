@@ -1,4 +1,5 @@
-ghost use Rattle.std.specs.Prelude.{◌≡◌, ◌⊎◌, Err, Some, option_map};
+ghost use Rattle.std.specs.Prelude.{◌≡◌, ◌⊎◌, Err, IfOk, Some, option_map};
+ghost use Rattle.pk_types.specs.CacheGroups.{HasGroupsNamedApart};
 ghost use Rattle.pack_config.specs.Config.{settings_of};
 
 use crate::check::check_top;
@@ -11,7 +12,9 @@ use std::alloc::Global;
 
 /// The settings that the bytes of `pack.json` say. An absent file is as `{}`.
 pub fn config(alloc: Global, bytes: Option<&[u8]>) -> Result<Config, ConfigFault>
-    ensures { (result ≡ settings_of (option_map (λ bytes. bytes.now) bytes.entry)) ⊎ (result ≡ Err ConfigFault.NoMemory) }
+    ensures answer { (result ≡ settings_of (option_map (λ bytes. bytes.now) bytes.entry))
+        ⊎ (result ≡ Err ConfigFault.NoMemory) }
+    ensures apart { IfOk result HasGroupsNamedApart }
 {
     match bytes {
         Some(bytes) => read_config(alloc, bytes),
@@ -21,7 +24,8 @@ pub fn config(alloc: Global, bytes: Option<&[u8]>) -> Result<Config, ConfigFault
 
 #[tactic(auto, unfolding(crate::specs::Config::settings_of))]
 fn read_config(alloc: Global, bytes: &[u8]) -> Result<Config, ConfigFault>
-    ensures { (result ≡ settings_of (Some bytes.now)) ⊎ (result ≡ Err ConfigFault.NoMemory) }
+    ensures answer { (result ≡ settings_of (Some bytes.now)) ⊎ (result ≡ Err ConfigFault.NoMemory) }
+    ensures apart { IfOk result HasGroupsNamedApart }
 {
     let Ok(text) = std::str::from_utf8(bytes) else {
         return Err(ConfigFault::BadJson);

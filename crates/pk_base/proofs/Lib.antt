@@ -4,7 +4,6 @@ pub mod Covers
 pub mod Held
 pub mod Joins
 pub mod Pieces
-pub mod Places
 pub mod Readings
 pub mod SegmentPlaces
 pub mod Segments

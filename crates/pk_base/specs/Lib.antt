@@ -6,7 +6,6 @@ pub mod Outside
 pub mod PathFaults
 pub mod PathScan
 pub mod Paths
-pub mod Places
 pub mod Schedules
 pub mod Starts
 pub mod Trees

@@ -4,7 +4,7 @@ use Rattle.std.specs.List.{All}
 use Rattle.std.specs.Str.{bytes_eq}
 use Rattle.std.specs.Map.{lookup}
 use Rattle.pk_base.specs.Calls.{Held}
-use Rattle.pk_base.specs.Places.{place_of}
+use Rattle.pk_text.specs.Places.{place_of}
 
 -- the bytes under each name, by entries of names and bytes
 abbrev pub named : List (List ℕ × List ℕ) → Held

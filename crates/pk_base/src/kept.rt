@@ -2,14 +2,14 @@
 ghost use Rattle.std.specs.Prelude.{◌≡◌, ◌++◌, ◌∷◌, [], OnOk, OnErr};
 ghost use Rattle.pk_base.specs.declared.outside.Call.TheVariants.{Put, Remove};
 
-use crate::{Bytes, Call, Path};
+use crate::{Call, Path, Text};
 use std::alloc::{AllocError, Global};
 
-pub fn keep_ask(alloc: Global, asks: &mut Vec<Bytes>, path: &Path) -> Result<(), AllocError>
+pub fn keep_ask(alloc: Global, asks: &mut Vec<Text>, path: &Path) -> Result<(), AllocError>
     ensures ok { OnOk result (asks.new.items ≡ asks.old.items ++ path.now ∷ []) }
     ensures err { OnErr result (asks.new.items ≡ asks.old.items) }
 {
-    let ask = Bytes::copy_of(alloc, path.text().as_bytes())?;
+    let ask = Text::from_slice(alloc, path.text().as_bytes())?;
     asks.push(ask)?;
     Ok(())
 }
@@ -18,7 +18,7 @@ pub fn keep_put(alloc: Global, calls: &mut Vec<Call>, name: &[u8]) -> Result<(),
     ensures ok { OnOk result (calls.new.items ≡ calls.old.items ++ Put name.now ∷ []) }
     ensures err { OnErr result (calls.new.items ≡ calls.old.items) }
 {
-    let name = Bytes::copy_of(alloc, name)?;
+    let name = Text::from_slice(alloc, name)?;
     calls.push(Call::Put(name))?;
     Ok(())
 }
@@ -27,7 +27,7 @@ pub fn keep_remove(alloc: Global, calls: &mut Vec<Call>, name: &[u8]) -> Result<
     ensures ok { OnOk result (calls.new.items ≡ calls.old.items ++ Remove name.now ∷ []) }
     ensures err { OnErr result (calls.new.items ≡ calls.old.items) }
 {
-    let name = Bytes::copy_of(alloc, name)?;
+    let name = Text::from_slice(alloc, name)?;
     calls.push(Call::Remove(name))?;
     Ok(())
 }

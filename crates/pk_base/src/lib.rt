@@ -1,9 +1,7 @@
 //! What the bundler sees of the outside: paths, trees, files to read, a store to write, a source and a sink.
 #![tactic(auto)]
 
-mod bytes;
 mod failures;
-mod intern;
 mod kept;
 mod mem_files;
 mod mem_store;
@@ -11,19 +9,16 @@ mod mem_streams;
 mod outside;
 mod path;
 mod real;
-mod sequence;
 mod steps;
 mod tree;
 
-pub use bytes::{Bytes, Key};
 pub use failures::FailsByNumber;
-pub use intern::Interner;
 pub use mem_files::MemFiles;
 pub use mem_store::MemStore;
 pub use mem_streams::{MemSink, MemSource};
 pub use outside::{Call, Failed, Files, Read, ReadFail, Sink, Source, Store};
 pub use path::{MAX_PATH_LEN, Path, PathFault};
+pub use pk_text::{Interner, Key, Sequence, Text};
 pub use real::{FolderFiles, FolderStore, StdSink, StdSource};
-pub use sequence::Sequence;
 pub use steps::Steps;
 pub use tree::Tree;

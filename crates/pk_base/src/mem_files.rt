@@ -6,13 +6,13 @@ ghost use Rattle.pk_base.specs.Starts.{first_of};
 ghost use Rattle.pk_base.specs.Causes.{Counts, is_failed};
 ghost use Rattle.pk_base.specs.Outside.{covers as covers_path, is_under as is_under_folder, turned, read_of, Asked};
 ghost use Rattle.pk_base.specs.Schedules.{failing_at, is_due, with_call};
-ghost use Rattle.pk_base.specs.Places.{place_of};
+ghost use Rattle.pk_text.specs.Places.{place_of};
 ghost use Rattle.std.specs.Str.{bytes_eq};
 ghost use Rattle.pk_base.specs.Trees.{held_of};
 
 use crate::failures::{FailsByNumber, Failures};
 use crate::kept::keep_ask;
-use crate::{Bytes, Files, Interner, Path, Read, ReadFail, Tree};
+use crate::{Files, Interner, Path, Read, ReadFail, Text, Tree};
 use std::alloc::{AllocError, Global};
 use std::collections::VecDeque;
 
@@ -21,16 +21,16 @@ use std::collections::VecDeque;
 pub struct MemFiles {
     alloc: Global,
     paths: Interner,
-    present: Vec<Option<Bytes>>,
-    coming: VecDeque<Vec<Option<Bytes>>>,
-    asks: Vec<Bytes>,
+    present: Vec<Option<Text>>,
+    coming: VecDeque<Vec<Option<Text>>>,
+    asks: Vec<Text>,
     failures: Failures,
     ghost present_len: { vec_len present ≡ length paths },
     ghost coming_len: { All (λ column. vec_len column ≡ length paths) coming.items },
 }
 
 // Gives each path a number.
-fn list_paths(paths: &mut Interner, files: &[(Path, Bytes)]) -> Result<(), AllocError>
+fn list_paths(paths: &mut Interner, files: &[(Path, Text)]) -> Result<(), AllocError>
     ensures kept { (q : List ℕ) → IsSome (place_of paths.old q) → IsSome (place_of paths.new q) }
     ensures known { OnOk result (AreKnown paths.new files.now) }
 {
@@ -41,7 +41,7 @@ fn list_paths(paths: &mut Interner, files: &[(Path, Bytes)]) -> Result<(), Alloc
 }
 
 // A column in which nothing stands.
-fn empty_column(alloc: Global, len: usize) -> Result<Vec<Option<Bytes>>, AllocError>
+fn empty_column(alloc: Global, len: usize) -> Result<Vec<Option<Text>>, AllocError>
     ensures len { IfOk result (λ column. vec_len column ≡ len) }
     ensures empty { IfOk result (λ column. (n : ℕ) → slice_index_or column.items n None ≡ None) }
 {
@@ -53,7 +53,7 @@ fn empty_column(alloc: Global, len: usize) -> Result<Vec<Option<Bytes>>, AllocEr
 }
 
 // Puts bytes at the place of a path.
-fn fill(paths: &Interner, column: &mut Vec<Option<Bytes>>, path: &[u8], bytes: Bytes)
+fn fill(paths: &Interner, column: &mut Vec<Option<Text>>, path: &[u8], bytes: Text)
     requires len { vec_len column.old ≡ length paths.now }
     requires known { IsSome (place_of paths.now path.now) }
     ensures len { vec_len column.new ≡ length paths.now }
@@ -65,7 +65,7 @@ fn fill(paths: &Interner, column: &mut Vec<Option<Bytes>>, path: &[u8], bytes: B
 }
 
 // The column of a tree.
-fn column_of(alloc: Global, paths: &Interner, tree: Tree) -> Result<Vec<Option<Bytes>>, AllocError>
+fn column_of(alloc: Global, paths: &Interner, tree: Tree) -> Result<Vec<Option<Text>>, AllocError>
     requires { AreKnown paths.now tree.files }
     ensures len { IfOk result (λ column. vec_len column ≡ length paths.now) }
     ensures held { IfOk result (λ column. held_in paths.now column.items ≡ held_of tree) }
@@ -94,7 +94,7 @@ fn columns_of(
     alloc: Global,
     paths: &Interner,
     mut trees: Vec<Tree>,
-) -> Result<VecDeque<Vec<Option<Bytes>>>, AllocError>
+) -> Result<VecDeque<Vec<Option<Text>>>, AllocError>
     requires { All (λ tree. AreKnown paths.now tree.files) trees.items }
     ensures len { IfOk result (λ columns. All (λ column. vec_len column ≡ length paths.now) columns.items) }
     ensures held { IfOk result (λ columns. map (λ column. held_in paths.now column.items) columns.items ≡ map held_of trees.items) }
@@ -134,8 +134,8 @@ fn covers(folders: &[Path], path: &[u8]) -> bool
 fn take_covered(
     paths: &Interner,
     listed: &[Path],
-    mut next: Vec<Option<Bytes>>,
-    present: &mut Vec<Option<Bytes>>,
+    mut next: Vec<Option<Text>>,
+    present: &mut Vec<Option<Text>>,
 )
     requires present_len { vec_len present.old ≡ length paths.now }
     requires next_len { vec_len next ≡ length paths.now }
@@ -173,14 +173,14 @@ impl MemFiles {
     }
 
     /// The written paths that were asked for, in order.
-    pub fn asks(&self) -> &[Bytes]
+    pub fn asks(&self) -> &[Text]
         ensures { result.now ≡ (⟦<MemFiles as Files>⟧.means self.now).asks }
     {
         self.asks.as_slice()
     }
 
     // What stands at a path.
-    fn find(&self, path: &[u8]) -> Option<&Bytes>
+    fn find(&self, path: &[u8]) -> Option<&Text>
         ensures { option_copied result ≡ (⟦<MemFiles as Files>⟧.means self.now).tree path.now }
     {
         match self.paths.find(path) {
@@ -221,7 +221,7 @@ impl Files for MemFiles {
         match self.find(path.text().as_bytes()) {
             None => Ok(Read::Absent),
             Some(bytes) if bytes.len() > limit as usize => Ok(Read::Longer),
-            Some(bytes) => Ok(Read::Bytes(Bytes::copy_of(self.alloc, bytes.as_slice())?)),
+            Some(bytes) => Ok(Read::Bytes(Text::from_slice(self.alloc, bytes.as_slice())?)),
         }
     }
 

@@ -12,7 +12,7 @@ ghost use Rattle.pk_base.specs.Starts.{empty_store};
 
 use crate::failures::{FailsByNumber, Failures};
 use crate::kept::{keep_put, keep_remove};
-use crate::{Bytes, Call, Failed, Key, Store};
+use crate::{Call, Failed, Key, Store, Text};
 use indexmap::IndexMap;
 use std::alloc::{AllocError, Global};
 
@@ -20,7 +20,7 @@ use std::alloc::{AllocError, Global};
 #[derive(Drop)]
 pub struct MemStore {
     alloc: Global,
-    files: IndexMap<Bytes, Bytes>,
+    files: IndexMap<Text, Text>,
     calls: Vec<Call>,
     failures: Failures,
 }
@@ -28,21 +28,21 @@ pub struct MemStore {
 // Copies bytes to a name.
 fn hold(
     alloc: Global,
-    files: &mut IndexMap<Bytes, Bytes>,
+    files: &mut IndexMap<Text, Text>,
     name: &[u8],
     bytes: &[u8],
 ) -> Result<(), AllocError>
     ensures ok { OnOk result (named files.new.entries ≡ set_at name.now (Some bytes.now) (named files.old.entries)) }
     ensures err { OnErr result (files.new.entries ≡ files.old.entries) }
 {
-    let name = Bytes::copy_of(alloc, name)?;
-    let bytes = Bytes::copy_of(alloc, bytes)?;
+    let name = Text::from_slice(alloc, name)?;
+    let bytes = Text::from_slice(alloc, bytes)?;
     files.insert(name, bytes)?;
     Ok(())
 }
 
 // Takes a name away, if it is there.
-fn forget(files: &mut IndexMap<Bytes, Bytes>, name: &[u8])
+fn forget(files: &mut IndexMap<Text, Text>, name: &[u8])
     ensures { named files.new.entries ≡ set_at name.now None (named files.old.entries) }
 {
     let _ = files.swap_remove(Key(name));
@@ -63,7 +63,7 @@ impl MemStore {
     }
 
     /// The bytes under a name, if it holds something.
-    pub fn get(&self, name: &[u8]) -> Option<&Bytes>
+    pub fn get(&self, name: &[u8]) -> Option<&Text>
         ensures { option_copied result ≡ (⟦<MemStore as Store>⟧.means self.now).files name.now }
     {
         self.files.get(Key(name))
@@ -77,7 +77,7 @@ impl MemStore {
     }
 
     /// The names that hold something, in no order that is promised.
-    pub fn names(&self) -> indexmap::map::Keys<'_, Bytes, Bytes>
+    pub fn names(&self) -> indexmap::map::Keys<'_, Text, Text>
         ensures { result ≡ keys self.now.files }
     {
         self.files.keys()

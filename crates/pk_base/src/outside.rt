@@ -9,14 +9,14 @@ ghost use Rattle.pk_base.specs.declared.outside.ReadFail.TheVariants.{NoMemory};
 ghost use Rattle.pk_base.specs.Calls.{Held};
 ghost use Rattle.pk_base.specs.Outside.{turned, read_of, Asked, set_at, Tried, ChangesOnly, AddsPrefix};
 
-use crate::{Bytes, Path};
+use crate::{Path, Text};
 use std::alloc::AllocError;
 
 /// What a read found.
 #[derive(Drop)]
 pub enum Read {
     Absent,
-    Bytes(Bytes),
+    Bytes(Text),
     Longer,
 }
 
@@ -38,8 +38,8 @@ impl From<AllocError> for ReadFail {
 /// A call of a store, by the name that it was given.
 #[derive(Drop)]
 pub enum Call {
-    Put(Bytes),
-    Remove(Bytes),
+    Put(Text),
+    Remove(Text),
 }
 
 /// A fault of a store, a source or a sink.

@@ -4,7 +4,7 @@ ghost use Rattle.std.specs.Io.{ReadsAtMost};
 ghost use Rattle.pk_base.specs.Starts.{untold_files, untold_store, untold_source, untold_sink};
 
 use crate::kept::{keep_ask, keep_put, keep_remove};
-use crate::{Bytes, Call, Failed, Files, Path, Read, ReadFail, Sink, Source, Store};
+use crate::{Call, Failed, Files, Path, Read, ReadFail, Sink, Source, Store, Text};
 use std::alloc::{AllocError, Global};
 use std::fs::OpenFile;
 use std::io::{ErrorKind, Read as ReadBytes};
@@ -15,7 +15,7 @@ use std::{fs, io, str};
 pub struct FolderFiles<R: std::rt::Files + Drop> {
     rt: R,
     alloc: Global,
-    asks: Vec<Bytes>,
+    asks: Vec<Text>,
     faults: u64,
 }
 
@@ -46,7 +46,7 @@ fn read_file<R: std::rt::Files>(rt: &R, alloc: Global, path: &str, limit: u32) -
     if bytes.len() > limit as usize {
         return Ok(Read::Longer);
     }
-    Ok(Read::Bytes(Bytes::from_vec(bytes)))
+    Ok(Read::Bytes(Text::from_vec(bytes)))
 }
 
 impl<R: std::rt::Files + Drop> FolderFiles<R> {
@@ -63,7 +63,7 @@ impl<R: std::rt::Files + Drop> FolderFiles<R> {
     }
 
     /// The written paths that were asked for, in order.
-    pub fn asks(&self) -> &[Bytes]
+    pub fn asks(&self) -> &[Text]
         ensures { result.now ≡ (⟦<FolderFiles<R> as Files>⟧.means self.now).asks }
     {
         self.asks.as_slice()

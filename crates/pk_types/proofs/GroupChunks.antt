@@ -13,18 +13,16 @@ use Rattle.pk_types.specs.declared.plan.Groups.{Groups}
 use Rattle.pk_types.specs.declared.settings.SplitConfig.{SplitConfig}
 use Rattle.pk_types.specs.ActiveEdges.{IsActive}
 use Rattle.pk_types.specs.ChunkGroups.{AreAll, HasTargets, IsGroups}
-use Rattle.pk_types.specs.Availability.{IsPlaced}
+use Rattle.pk_types.specs.Availability.{IsPlaced, begins}
 use Rattle.pk_types.specs.Splitting.{IsSplit}
 use Rattle.pk_types.specs.ChunkClauses.{FitTogether, MeetClauses, IsOfGroup, row_at}
 use Rattle.pk_types.specs.HoistSets.{Scene, IsInChunk, AreHoistSets, set_of}
 use Rattle.pk_types.specs.HoistPaths.{IsTarget, IsInGroup, IsReachedInside}
 use Rattle.pk_types.proofs.Members.{Contains-at, as_long}
+use Rattle.pk_types.proofs.PickLaws.{none_ascends}
 use Rattle.pk_types.proofs.SplitClauses.{split_meets}
 use Rattle.pk_types.proofs.HoistLaws.{each_reached}
 use Rattle.pk_types.proofs.ListMembers.{in_row}
-
-no_step : IsStrictlyIncreasing []
-no_step k inside = absurd (omega arith)
 
 -- Lists of exactly the modules that each group brings itself fit together with the closures.
 pub placed_fit : (groups : Groups) (placed : List (List ℕ)) → groups.entries ≤ length groups.targets → length placed ≡ length groups.targets
@@ -35,9 +33,16 @@ placed_fit groups placed few each modules = record {
       let at = slice_get-get_or placed group [] (in_row placed group member c) in
       let held = (((modules group (row_at placed group) at).each member).0 c).0 in
       subst (λ list. Contains list member) (sym (get_or_from_slice_get groups.closures group held.0 [] held.1)) held.2;
+  whole = λ group member entry c.
+      let at = slice_get-get_or groups.closures group [] (in_row groups.closures group member c) in
+      let there = slice_get-get_or placed group [] (omega (arith, entry)) in
+      ((modules group (row_at placed group) there).each member).1 (
+        (row_at groups.closures group, at, c),
+        λ available. absurd (let inside = (available [] (group, entry, begins)).2 in omega (arith, inside)),
+      );
   sorted = λ group. ⊎_elim
       (λ inside. (modules group (row_at placed group) (slice_get-get_or placed group [] inside)).ascending)
-      (λ beyond. subst IsStrictlyIncreasing (sym (get_or_past placed group [] beyond)) no_step)
+      (λ beyond. subst IsStrictlyIncreasing (sym (get_or_past placed group [] beyond)) none_ascends)
       (cases_lt group (length placed));
   few_entries = omega arith;
 }
@@ -61,7 +66,7 @@ closure_target graph active groups are group member c =
 
 -- chunks that meet the clauses hold what is in the closure of an entry or an import target
 pub chunks_hold_loaded : (graph : Graph) (active : Active) (groups : Groups) (placed : List (List ℕ)) (chunks : Chunks) → IsGroups graph active groups
-    → MeetClauses groups.closures placed chunks → (chunk member : ℕ) → IsInChunk chunks chunk member → IsInGroup graph active member
+    → MeetClauses groups.entries groups.closures placed chunks → (chunk member : ℕ) → IsInChunk chunks chunk member → IsInGroup graph active member
 chunks_hold_loaded graph active groups placed chunks are meet chunk member c =
     closure_target graph active groups are group.0 member (meet.closed group.0 chunk member group.1 c)
   where
@@ -80,7 +85,7 @@ module _ (graph : Graph) (active : Active) (groups : Groups) (are : IsGroups gra
     (modules : (group : ℕ) (modules : List ℕ) → slice_get placed group ≡ Some modules → AreAll (IsPlaced groups group) modules) where
   -- where exactly the modules that each group brings are split into chunks, these meet the clauses
   pub graph_chunks_meet : (config : Option SplitConfig) (chunks : Chunks) → IsSplit graph config groups.entries placed chunks
-      → MeetClauses groups.closures placed chunks
+      → MeetClauses groups.entries groups.closures placed chunks
   graph_chunks_meet config chunks split = split_meets graph config groups.entries groups.closures placed chunks
       (placed_fit groups placed (entries_fit graph active groups are.targets) each modules) split
 

@@ -1,3 +1,4 @@
+pub mod FittingNone
 pub mod Members
 pub mod Parts
 pub mod OneAnswer

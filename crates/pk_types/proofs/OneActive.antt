@@ -12,7 +12,8 @@ use Rattle.pk_types.specs.declared.plan.Active.{Active}
 use Rattle.pk_types.specs.declared.plan.Used.{Used}
 use Rattle.pk_types.specs.Requests.{flag_of}
 use Rattle.pk_types.specs.StopSearch.{HasStops}
-use Rattle.pk_types.specs.ActiveEdges.{first_places, SpaceGoesThrough, AreNamesThrough, GivesEdges, HasEdges, IsLedTo, IsActive}
+use Rattle.pk_types.specs.ActiveEdges.{SpaceGoesThrough, AreNamesThrough, GivesEdges, HasEdges, IsLedTo, IsActive}
+use Rattle.pk_text.specs.FirstPlaces.{first_places}
 use Rattle.pk_types.proofs.Members.{as_long, same_by_place}
 use Rattle.pk_types.proofs.OneOrder.{same_in_order}
 use Rattle.pk_types.proofs.OneSearch.{stops_once}

@@ -8,7 +8,7 @@ use Rattle.pk_types.specs.declared.facts.Facts.{Facts}
 use Rattle.pk_types.specs.declared.facts.ExportEntry.{ExportEntry}
 use Rattle.pk_types.specs.declared.facts.Origin.{Origin}
 use Rattle.pk_types.specs.Resolving.{origin_of}
-use Rattle.pk_types.specs.ActiveEdges.{first_places}
+use Rattle.pk_text.specs.FirstPlaces.{first_places}
 
 module _ {A : Type 0} where
   pub Contains-one : (x : A) → Contains (x ∷ []) x

@@ -1,27 +1,35 @@
 -- What a pick leaves: the clauses on chunks hold after it where they held before.
-use Rattle.std.proofs.Common.{◌≡◌, ◌≢◌, ◌⊎◌, ℕ, ◌+◌, ◌<◌, ◌≤◌, max, ◌||◌, Bool, true, false, not, cond, List, [], length, refl, sym, ap, subst, ◌∙◌, arith, inl, inr, ⊎_elim, nat_lt}
+use Rattle.std.proofs.Common.{◌≡◌, ◌≢◌, ◌⊎◌, ℕ, ◌+◌, ◌<◌, ◌≤◌, max, ◌||◌, Bool, true, false, not, cond, List, [], length, refl, sym, ap, subst, ◌∙◌, arith, inl, inr, ⊎_elim, nat_lt, true≢false}
 use Rattle.std.specs.List.{Contains, range_with_len}
 use Rattle.std.specs.Cmp.Lexicographic.{bytes_decides}
-use Rattle.std.proofs.lemmas.Bool.{eq-eqb, ne_eqb, ltb-true, lt-ltb}
+use Rattle.std.specs.List.Sorted.{IsStrictlyIncreasing}
+use Rattle.std.proofs.lemmas.Bool.{cases_lt, eq-eqb, ne_eqb, ltb-true, lt-ltb}
 use Rattle.std.proofs.lemmas.List.FromFn.{get_or-map-range_with_len, length-map-range_with_len}
-use Rattle.std.proofs.lemmas.List.{length-map}
+use Rattle.std.proofs.lemmas.List.{get_or_past, length-map}
+use Rattle.std.proofs.lemmas.List.Kept.{IsStrictlyIncreasing-filter}
+use Rattle.pk_text.proofs.Ranges.{range_rises}
 use Rattle.pk_types.specs.declared.graph.Graph.{Graph}
 use Rattle.pk_types.specs.declared.settings.SplitConfig.{SplitConfig}
 use Rattle.pk_types.specs.Numbers.{has, meets, without}
 use Rattle.pk_types.specs.SplitStates.{SplitState, chunk_at, loads_at, is_entry, is_there}
-use Rattle.pk_types.specs.SplitCandidates.{Candidate, IsCandidate, chunks_with}
+use Rattle.pk_types.specs.SplitCandidates.{Candidate, IsCandidate, allows, chunks_with}
 use Rattle.pk_types.specs.SplitPicks.{IsSplitChunk, reused, made, chunk_after, stays, loads_after, after_pick}
 use Rattle.pk_types.specs.ChunkClauses.{row_at}
 use Rattle.pk_types.proofs.StateClauses.{KeepClauses}
-use Rattle.pk_types.proofs.ListMembers.{filtered, unfiltered, has-true, true-has, in_range, range_of, any_true, true-any, or_first, or_second, or_one, has_some, some_of, both, first_so, second_so, so_not, in_or_not, absent, in_row, of_mapped_row, in_mapped_row, same_or_not}
+use Rattle.pk_types.proofs.ListMembers.{filtered, unfiltered, has-true, true-has, in_range, range_of, any_true, true-any, or_first, or_second, or_one, has_some, some_of, both, first_so, second_so, not_so, so_not, in_or_not, absent, in_row, of_mapped_row, in_mapped_row, same_or_not}
+
+-- the chunks of a module that a candidate moves are the candidate's
+chunks_of_moved : (graph : Graph) (config : SplitConfig) (state : SplitState) (candidate : Candidate) → IsCandidate graph config state candidate
+    → (member : ℕ) → Contains candidate.modules member → chunks_with state candidate.cache_group member ≡ candidate.chunks
+chunks_of_moved graph config state candidate is member moves =
+    let passes = (unfiltered _ (range_with_len 0 (length graph.rows)) member (subst (λ list. Contains list member) is.modules moves)).1 in
+    (bytes_decides (chunks_with state candidate.cache_group member) candidate.chunks).0 (second_so _ _ passes)
 
 -- a chunk of a candidate holds each of its modules
 pub holds_each : (graph : Graph) (config : SplitConfig) (state : SplitState) (candidate : Candidate) → IsCandidate graph config state candidate
     → (chunk member : ℕ) → Contains candidate.chunks chunk → Contains candidate.modules member → Contains (chunk_at state chunk) member
 holds_each graph config state candidate is chunk member in_chunks in_modules =
-    let passes = (unfiltered _ (range_with_len 0 (length graph.rows)) member (subst (λ list. Contains list member) is.modules in_modules)).1 in
-    let same = second_so _ _ passes in
-    let equal : chunks_with state candidate.cache_group member ≡ candidate.chunks = (bytes_decides (chunks_with state candidate.cache_group member) candidate.chunks).0 same in
+    let equal = chunks_of_moved graph config state candidate is member in_modules in
     let among = (unfiltered _ (range_with_len 0 (length state.modules)) chunk (subst (λ list. Contains list chunk) (sym equal) in_chunks)).1 in
     true-has (chunk_at state chunk) member (second_so _ _ among)
 
@@ -71,6 +79,35 @@ held_after state candidate split chunk member apart c still =
     by true e = filtered (λ number. not (has candidate.modules number)) (chunk_at state chunk) member c
         (so_not _ (absent candidate.modules member (still (true-has candidate.chunks chunk e))))
     by false e = c
+
+-- what a chunk of the candidate still holds was not moved
+none_moved : (state : SplitState) (candidate : Candidate) (split chunk member : ℕ) → chunk ≢ split → Contains (chunk_after state candidate split chunk) member
+    → Contains candidate.chunks chunk → ¬ Contains candidate.modules member
+none_moved state candidate split chunk member apart c among moves =
+    let left = subst (λ list. Contains list member) (other_chunk state candidate split chunk apart
+        ∙ ap (λ b. cond b (without candidate.modules (chunk_at state chunk)) (chunk_at state chunk)) (has-true candidate.chunks chunk among)) c in
+    true≢false (sym (has-true candidate.modules member moves) ∙ not_so _ (unfiltered (λ number. not (has candidate.modules number)) (chunk_at state chunk) member left).1)
+
+-- the modules of a candidate stand by number
+modules_ascend : (graph : Graph) (config : SplitConfig) (state : SplitState) (candidate : Candidate) → IsCandidate graph config state candidate
+    → IsStrictlyIncreasing candidate.modules
+modules_ascend graph config state candidate is = subst IsStrictlyIncreasing (sym is.modules) (IsStrictlyIncreasing-filter _ (range_with_len 0 (length graph.rows)) (range_rises (length graph.rows)))
+
+pub none_ascends : IsStrictlyIncreasing []
+none_ascends k inside = absurd (omega arith)
+
+-- of two entry chunks with a module that the candidate moves, both are the candidate's if one is
+one_entry : (graph : Graph) (config : SplitConfig) (state : SplitState) (candidate : Candidate) → IsCandidate graph config state candidate
+    → (entry other member : ℕ) → entry < length state.modules → entry < state.entries → other < state.entries → Contains (chunk_at state entry) member
+    → Contains candidate.chunks other → Contains candidate.modules member → Contains candidate.chunks entry
+one_entry graph config state candidate is entry other member inside below other_below held among moves =
+    let equal = chunks_of_moved graph config state candidate is member moves in
+    let passes = (unfiltered _ (range_with_len 0 (length state.modules)) other (subst (λ list. Contains list other) (sym equal) among)).1 in
+    let allowed : allows candidate.cache_group.chunks true ≡ true =
+    ap (allows candidate.cache_group.chunks) (sym (lt-ltb other state.entries other_below)) ∙ first_so _ _ passes in
+    subst (λ list. Contains list entry) equal
+    (filtered _ (range_with_len 0 (length state.modules)) entry (in_range 0 (length state.modules) entry (omega arith) (omega (arith, inside)))
+    (both _ _ (ap (allows candidate.cache_group.chunks) (lt-ltb entry state.entries below) ∙ allowed) (has-true (chunk_at state entry) member held)))
 
 -- which chunks a group loads after the pick
 loads_split : (state : SplitState) (candidate : Candidate) (split group : ℕ) → Contains (loads_at (after_pick state candidate split) group) split
@@ -139,8 +176,8 @@ was_there state candidate split chunk apart left = ⊎_elim (λ entry. or_first 
     there_filled state chunk found.0 (held_before state candidate split chunk found.0 apart found.1))
     (or_one (is_entry state chunk) _ left)
 
-module _ (graph : Graph) (config : SplitConfig) (closures placed : List (List ℕ)) (state : SplitState) (candidate : Candidate) (split : ℕ)
-    (is : IsCandidate graph config state candidate) (into : IsSplitChunk state candidate split) (kept : KeepClauses closures placed state) where
+module _ (graph : Graph) (config : SplitConfig) (count : ℕ) (closures placed : List (List ℕ)) (state : SplitState) (candidate : Candidate) (split : ℕ)
+    (is : IsCandidate graph config state candidate) (into : IsSplitChunk state candidate split) (kept : KeepClauses count closures placed state) where
   place : (state.entries ≤ split) × ((Contains candidate.chunks split × (chunk_at state split ≡ candidate.modules)) ⊎ (split ≡ length state.modules))
   place = split_place state candidate split into kept.few_entries
 
@@ -194,6 +231,43 @@ module _ (graph : Graph) (config : SplitConfig) (closures placed : List (List �
       (λ apart. kept.closed group chunk member (loads_other state candidate split group chunk apart loaded) (held_before state candidate split chunk member apart held))
       (same_or_not chunk split)
 
+  -- a candidate's modules stand by number, and taking some away leaves the others so
+  ascending_at : (chunk : ℕ) → IsStrictlyIncreasing (chunk_after state candidate split chunk)
+  ascending_at chunk = ⊎_elim
+      (λ same. subst IsStrictlyIncreasing (sym (ap (chunk_after state candidate split) same ∙ split_holds state candidate split)) (modules_ascend graph config state candidate is))
+      (λ apart. subst IsStrictlyIncreasing (sym (other_chunk state candidate split chunk apart)) (by (has candidate.chunks chunk)))
+      (same_or_not chunk split)
+    where
+      by : (b : Bool) → IsStrictlyIncreasing (cond b (without candidate.modules (chunk_at state chunk)) (chunk_at state chunk))
+      by true = IsStrictlyIncreasing-filter (λ number. not (has candidate.modules number)) (chunk_at state chunk) (kept.ascending chunk)
+      by false = kept.ascending chunk
+
+  ascending_still : (chunk : ℕ) → IsStrictlyIncreasing (chunk_at (after_pick state candidate split) chunk)
+  ascending_still chunk = ⊎_elim
+      (λ inside. subst IsStrictlyIncreasing (sym (chunk_at_after state candidate split chunk inside)) (ascending_at chunk))
+      (λ beyond. subst IsStrictlyIncreasing (sym (get_or_past (after_pick state candidate split).modules chunk [] (let long = length_after state candidate split in omega arith))) none_ascends)
+      (cases_lt chunk (count_after state split))
+
+  -- an entry chunk is not the one that modules move into
+  entry_apart : (entry : ℕ) → entry < state.entries → entry ≢ split
+  entry_apart entry below same = let above = place.0 in omega arith
+
+  entry_at : (entry : ℕ) → entry < state.entries → chunk_at (after_pick state candidate split) entry ≡ chunk_after state candidate split entry
+  entry_at entry below = chunk_at_after state candidate split entry (let few = kept.few_entries in omega arith)
+
+  -- where one entry chunk keeps a module, none loses it
+  together_still : (entry other member : ℕ) → entry < state.entries → other < state.entries
+      → Contains (chunk_at (after_pick state candidate split) entry) member → Contains (row_at closures other) member
+      → Contains (chunk_at (after_pick state candidate split) other) member
+  together_still entry other member below other_below inside closure =
+      let left : Contains (chunk_after state candidate split entry) member = subst (λ list. Contains list member) (entry_at entry below) inside in
+      let was = held_before state candidate split entry member (entry_apart entry below) left in
+      let there_too = kept.together entry other member below other_below was closure in
+      subst (λ list. Contains list member) (sym (entry_at other other_below))
+      (held_after state candidate split other member (entry_apart other other_below) there_too
+      (λ among moves. none_moved state candidate split entry member (entry_apart entry below) left
+      (let few = kept.few_entries in one_entry graph config state candidate is entry other member (omega arith) below other_below was among moves) moves))
+
   listed_still : (chunk : ℕ) → chunk < length (after_pick state candidate split).modules → is_there (after_pick state candidate split) chunk ≡ true
       → (group : ℕ) × Contains (loads_at (after_pick state candidate split) group) chunk
   listed_still chunk inside is_left =
@@ -214,8 +288,11 @@ module _ (graph : Graph) (config : SplitConfig) (closures placed : List (List �
       (source.0, other_loaded state candidate split source.0 chunk apart old source.1 left))
       (same_or_not chunk split)
 
-  pub pick_keeps : KeepClauses closures placed (after_pick state candidate split)
+  pub pick_keeps : KeepClauses count closures placed (after_pick state candidate split)
   pick_keeps = record {
+    entries = kept.entries;
+    ascending = ascending_still;
+    together = together_still;
     groups = length-map state.loads (loads_after state candidate split) ∙ kept.groups;
     few_entries = let long = length_after state candidate split in let few = kept.few_entries in omega arith;
     in_range = λ group chunk c. let below = (loaded_stays state candidate split group chunk c).0 in let long = length_after state candidate split in omega (arith, below);

@@ -2,7 +2,8 @@
 use Rattle.std.proofs.Common.{◌≡◌, ℕ, ◌+◌, ◌-◌, ◌<◌, ◌≤◌, Bool, true, false, cond, List, [], ◌∷◌, length, refl, sym, ap, subst, ◌∙◌, arith, inl, inr, ⊎_elim, nat_le, filter, count_by, Option, Some, None}
 use Rattle.std.specs.List.{Contains, range_with_len}
 use Rattle.std.proofs.lemmas.Bool.{ltb-true, lt-ltb, cases_lt, le-leb, leb-true}
-use Rattle.std.proofs.lemmas.List.{length-map, get_or-map}
+use Rattle.std.specs.List.Sorted.{IsStrictlyIncreasing}
+use Rattle.std.proofs.lemmas.List.{get_or_past, length-map, get_or-map}
 use Rattle.std.proofs.lemmas.List.Sums.{length-filter}
 use Rattle.std.proofs.lemmas.List.FromFn.{get_or-map-range_with_len, length-map-range_with_len}
 use Rattle.pk_types.specs.declared.graph.Graph.{Graph}
@@ -15,7 +16,7 @@ use Rattle.pk_types.specs.ChunkClauses.{MeetClauses, FitTogether, IsOfGroup, row
 use Rattle.pk_types.proofs.StateClauses.{KeepClauses}
 use Rattle.pk_types.proofs.ListMembers.{here, one_of, none_in, filtered, unfiltered, mapped, unmapped, or_first, or_second, or_one, has_some, in_row, of_mapped_row, in_mapped_row}
 use Rattle.pk_types.proofs.Counts.{counted, place_of_passing, passing_at, count_split, count_all}
-use Rattle.pk_types.proofs.PickLaws.{pick_keeps}
+use Rattle.pk_types.proofs.PickLaws.{none_ascends, pick_keeps}
 
 own_one : (entries : ℕ) (placed : List (List ℕ)) (group chunk : ℕ) → Contains (own_chunks entries placed group) chunk
     → (chunk ≡ group) × (is_there (first_state entries placed) group ≡ true)
@@ -49,8 +50,11 @@ module _ (entries : ℕ) (closures placed : List (List ℕ)) (fits : FitTogether
   loads_itself : (group : ℕ) → group < length placed → is_there (first_state entries placed) group ≡ true → Contains (loads_at (first_state entries placed) group) group
   loads_itself group inside there = subst (λ list. Contains list group) (sym (first_loads group inside)) (own_there entries placed group there)
 
-  pub first_keeps : KeepClauses closures placed (first_state entries placed)
+  pub first_keeps : KeepClauses entries closures placed (first_state entries placed)
   first_keeps = record {
+    entries = refl;
+    ascending = fits.sorted;
+    together = λ entry other member below other_below inside closure. fits.whole other member other_below closure;
     groups = length-map-range_with_len (own_chunks entries placed) 0 (length placed);
     few_entries = fits.few_entries;
     in_range = λ group chunk c. let from = first_loaded group chunk c in let below = from.0 in let same = from.1 in omega arith;
@@ -69,18 +73,18 @@ module _ (entries : ℕ) (closures placed : List (List ℕ)) (fits : FitTogether
   }
 
 -- what holds before the picks holds after them
-picks_keep : (graph : Graph) (config : SplitConfig) (closures placed : List (List ℕ)) (start last : SplitState) (picks : List Candidate)
-    → ArePicks graph config start picks last → KeepClauses closures placed start → KeepClauses closures placed last
-picks_keep graph config closures placed start last picks (ended _ none) keeps = keeps
-picks_keep graph config closures placed start last picks (picked _ _ pick rest split is_pick into after) keeps =
-    picks_keep graph config closures placed _ last rest after (pick_keeps graph config closures placed start pick split is_pick.qualifies.is_candidate into keeps)
+picks_keep : (graph : Graph) (config : SplitConfig) (count : ℕ) (closures placed : List (List ℕ)) (start last : SplitState) (picks : List Candidate)
+    → ArePicks graph config start picks last → KeepClauses count closures placed start → KeepClauses count closures placed last
+picks_keep graph config count closures placed start last picks (ended _ none) keeps = keeps
+picks_keep graph config count closures placed start last picks (picked _ _ pick rest split is_pick into after) keeps =
+    picks_keep graph config count closures placed _ last rest after (pick_keeps graph config count closures placed start pick split is_pick.qualifies.is_candidate into keeps)
 
-last_keeps : (graph : Graph) (config : Option SplitConfig) (closures placed : List (List ℕ)) (start last : SplitState) → PicksEndIn graph config start last
-    → KeepClauses closures placed start → KeepClauses closures placed last
-last_keeps graph None closures placed start last same keeps = subst (KeepClauses closures placed) same keeps
-last_keeps graph (Some config) closures placed start last (picks, are) keeps = picks_keep graph config closures placed start last picks are keeps
+last_keeps : (graph : Graph) (config : Option SplitConfig) (count : ℕ) (closures placed : List (List ℕ)) (start last : SplitState) → PicksEndIn graph config start last
+    → KeepClauses count closures placed start → KeepClauses count closures placed last
+last_keeps graph None count closures placed start last same keeps = subst (KeepClauses count closures placed) same keeps
+last_keeps graph (Some config) count closures placed start last (picks, are) keeps = picks_keep graph config count closures placed start last picks are keeps
 
-module _ (closures placed : List (List ℕ)) (state : SplitState) (keeps : KeepClauses closures placed state) where
+module _ (count : ℕ) (closures placed : List (List ℕ)) (state : SplitState) (keeps : KeepClauses count closures placed state) where
   -- the place of a chunk that is there
   place_inside : (chunk : ℕ) → chunk < length state.modules → is_there state chunk ≡ true
       → count_by (is_there state) (range_with_len 0 chunk) < length (chunks_there state (range_with_len 0 (length state.modules)))
@@ -182,10 +186,42 @@ module _ (closures placed : List (List ℕ)) (state : SplitState) (keeps : KeepC
       let long = length-map (chunks_there state (range_with_len 0 (length state.modules))) (chunk_at state) in
       omega arith
 
-  pub finished : MeetClauses closures placed (chunks_of state)
+  -- a chunk that is left stands at some place
+  row_of_place : (place : ℕ) → place < length (chunks_of state).modules → (chunk : ℕ) × (row_at (chunks_of state).modules place ≡ chunk_at state chunk)
+  row_of_place place inside =
+      let long = length-map (chunks_there state (range_with_len 0 (length state.modules))) (chunk_at state) in
+      let found = passing_at (is_there state) 0 (length state.modules) place (omega arith) in
+      let start : 0 + found.0 ≡ found.0 = omega arith in
+      (found.0, ap (row_at (chunks_of state).modules) (sym found.3) ∙ row_of_chunk found.0 found.1 (ap (is_there state) (sym start) ∙ found.2))
+
+  still_ascending : (place : ℕ) → IsStrictlyIncreasing (row_at (chunks_of state).modules place)
+  still_ascending place = ⊎_elim
+      (λ inside. let found = row_of_place place inside in subst IsStrictlyIncreasing (sym found.1) (keeps.ascending found.0))
+      (λ beyond. subst IsStrictlyIncreasing (sym (get_or_past (chunks_of state).modules place [] beyond)) none_ascends)
+      (cases_lt place (length (chunks_of state).modules))
+
+  -- the modules of an entry chunk stand at its number
+  row_of_entry : (entry : ℕ) → entry < state.entries → row_at (chunks_of state).modules entry ≡ chunk_at state entry
+  row_of_entry entry below =
+      let few = keeps.few_entries in
+      ap (row_at (chunks_of state).modules) (sym (place_of_entry entry below))
+      ∙ row_of_chunk entry (omega arith) (or_first (is_entry state entry) _ (lt-ltb entry state.entries below))
+
+  still_together : (entry other member : ℕ) → entry < count → other < count → Contains (row_at (chunks_of state).modules entry) member
+      → Contains (row_at closures other) member → Contains (row_at (chunks_of state).modules other) member
+  still_together entry other member below other_below inside closure =
+      let same = keeps.entries in
+      let low : entry < state.entries = omega arith in
+      let other_low : other < state.entries = omega arith in
+      subst (λ list. Contains list member) (sym (row_of_entry other other_low))
+      (keeps.together entry other member low other_low (subst (λ list. Contains list member) (row_of_entry entry low) inside) closure)
+
+  pub finished : MeetClauses count closures placed (chunks_of state)
   finished = record {
     each = length-map state.loads (list_of state) ∙ keeps.groups;
+    each_entry = keeps.entries;
     few_entries = still_few;
+    ascending = still_ascending;
     in_range = numbers_inside;
     held = λ group member c. let source = keeps.held group member c in (
       count_by (is_there state) (range_with_len 0 source.0),
@@ -195,6 +231,7 @@ module _ (closures placed : List (List ℕ)) (state : SplitState) (keeps : KeepC
     closed = λ group place member of_it c. let source = from_group group place of_it in
         keeps.closed group source.0 member source.1
         (subst (λ list. Contains list member) (ap (row_at (chunks_of state).modules) source.2 ∙ row_of_chunk source.0 (keeps.in_range group source.0 source.1) (keeps.there group source.0 source.1)) c);
+    together = still_together;
     listed = λ place above inside. let found = chunk_of_place place above inside in
         let source = keeps.listed found.0 found.1 found.2 in
         (source.0, subst (IsOfGroup (chunks_of state) source.0) found.4 (of_group_loaded source.0 found.0 source.1));
@@ -204,8 +241,8 @@ module _ (closures placed : List (List ℕ)) (state : SplitState) (keeps : KeepC
 
 -- the chunks that splitting leaves meet the clauses
 pub split_meets : (graph : Graph) (config : Option SplitConfig) (entries : ℕ) (closures placed : List (List ℕ)) (chunks : Chunks)
-    → FitTogether entries closures placed → IsSplit graph config entries placed chunks → MeetClauses closures placed chunks
+    → FitTogether entries closures placed → IsSplit graph config entries placed chunks → MeetClauses entries closures placed chunks
 split_meets graph config entries closures placed chunks fits split =
-    subst (MeetClauses closures placed) (sym split.finished)
-    (finished closures placed split.last
-    (last_keeps graph config closures placed (first_state entries placed) split.last split.picks (first_keeps entries closures placed fits)))
+    subst (MeetClauses entries closures placed) (sym split.finished)
+    (finished entries closures placed split.last
+    (last_keeps graph config entries closures placed (first_state entries placed) split.last split.picks (first_keeps entries closures placed fits)))

@@ -1,7 +1,8 @@
 -- The active edges of modules: which modules each evaluates before itself. A request whose target has no side effects is replaced by edges to
 -- the stops of the names that are used through it.
-use Rattle.std.specs.Prelude.{◌≡◌, ◌↔◌, ℕ, not, ◌==◌, List, [], ◌∷◌, true, false, length, Some, slice_get}
-use Rattle.std.specs.List.{AllZip, Contains, concat, filter}
+use Rattle.std.specs.Prelude.{◌≡◌, ◌↔◌, ℕ, List, [], ◌∷◌, true, false, length, Some, slice_get}
+use Rattle.std.specs.List.{AllZip, Contains, concat}
+use Rattle.pk_text.specs.FirstPlaces.{first_places}
 use Rattle.pk_types.specs.declared.graph.Graph.{Graph}
 use Rattle.pk_types.specs.declared.graph.Row.{Row}
 use Rattle.pk_types.specs.declared.plan.Active.{Active}
@@ -10,11 +11,6 @@ use Rattle.pk_types.specs.Requests.{flag_of, CallsRequire, CallsImport, NamesAtS
 use Rattle.pk_types.specs.Reexports.{PassesOn, ExportsSpace}
 use Rattle.pk_types.specs.StopSearch.{HasStops}
 use Rattle.pk_types.specs.ExportedNames.{AreInByteOrder}
-
--- the numbers, each where it stands first
-abbrev pub first_places : List ℕ → List ℕ
-first_places [] = []
-first_places (number ∷ numbers) = number ∷ filter (λ other. not (other == number)) (first_places numbers)
 
 -- Where these names of a reached module are used, the name is used through its request: the same as being used through a request, of names that
 -- are given.

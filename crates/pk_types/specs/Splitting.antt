@@ -1,6 +1,7 @@
 -- Splitting: picks are made until none qualifies. It is said of a finished list of picks, and of the chunks that they leave.
 use Rattle.std.specs.Prelude.{◌≡◌, ℕ, ◌-◌, List, [], ◌∷◌, Option, Some, None, length, map, filter, nat_le, count_by}
 use Rattle.std.specs.List.{range_with_len}
+use Rattle.pk_types.specs.declared.limits.TheConstants.{MAX_CHUNKS}
 use Rattle.pk_types.specs.declared.graph.Graph.{Graph}
 use Rattle.pk_types.specs.declared.plan.Chunks.{Chunks}
 use Rattle.pk_types.specs.declared.settings.SplitConfig.{SplitConfig}
@@ -46,7 +47,7 @@ chunk_count chunks = length chunks.modules - chunks.entries
 
 -- how many there may be
 abbrev pub most_chunks : ℕ
-most_chunks = 4096
+most_chunks = MAX_CHUNKS
 
 -- What is placed in each group, by number and each module once, is split into these chunks.
 pub record IsSplit (graph : Graph) (config : Option SplitConfig) (entries : ℕ) (placed : List (List ℕ)) (chunks : Chunks) : Type 0 where

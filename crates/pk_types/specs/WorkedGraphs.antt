@@ -49,7 +49,7 @@ default_split size = record {
 
 -- a request by an `import` declaration or a call of `import()`
 abbrev pub import_of : List ℕ → Request
-import_of text = record { text = text; form = form.Import }
+import_of text = record { text = text; form = form.Import; json = false }
 
 -- a CommonJS module of calls of `import()`, or of functions without a declaration
 abbrev pub calls : List ℕ → List Request → List Site → List (List ℕ) → List ℕ → ℕ → Row

@@ -1,6 +1,10 @@
+ghost use Rattle.std.specs.Prelude.{◌≡◌};
+ghost use Rattle.pk_types.specs.Fitting.{AreFitting};
+ghost use Rattle.pk_types.specs.NoFacts.{no_facts};
+
 use crate::form::Form;
-use crate::sequence::Sequence;
-use crate::text::Text;
+use pk_text::{Sequence, Text};
+use std::alloc::Global;
 
 /// The name of a binding, an import or an export.
 pub type Name = Text;
@@ -45,11 +49,34 @@ pub struct Facts {
     pub inner: Sequence<Name>,
 }
 
+impl Facts {
+    /// Facts without an item, as of a module of which the kind alone is known.
+    pub fn none(alloc: Global, kind: Kind) -> Facts
+        ensures empty { result ≡ no_facts kind }
+        ensures fitting { AreFitting result }
+    {
+        Facts {
+            kind,
+            requests: Sequence::new(alloc),
+            order: Sequence::new(alloc),
+            imports: Sequence::new(alloc),
+            exports: Sequence::new(alloc),
+            stars: Sequence::new(alloc),
+            bindings: Sequence::new(alloc),
+            sites: Sequence::new(alloc),
+            free: Sequence::new(alloc),
+            inner: Sequence::new(alloc),
+        }
+    }
+}
+
 /// What a module asks for, and how.
 #[derive(Debug, Drop)]
 pub struct Request {
     pub text: Text,
     pub form: Form,
+    /// Whether a declaration asks for JSON by it, `with { type: "json" }`.
+    pub json: bool,
 }
 
 /// A name that is imported. Without a name it is the namespace.

@@ -1,6 +1,5 @@
 use crate::facts::Facts;
-use crate::sequence::Sequence;
-use crate::text::Text;
+use pk_text::{Sequence, Text};
 
 /// The modules that the entries lead to. A module's number is the place of its row.
 #[derive(Debug, Drop)]

@@ -1,5 +1,5 @@
 use crate::facts::Name;
-use crate::sequence::Sequence;
+use pk_text::Sequence;
 
 /// Which modules a bundle needs, and which of their requests it follows.
 #[derive(Debug, Drop)]

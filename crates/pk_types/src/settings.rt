@@ -1,5 +1,4 @@
-use crate::sequence::Sequence;
-use crate::text::Text;
+use pk_text::{Sequence, Text};
 
 /// What `pack.json` says, with the defaults in place of what it leaves out.
 #[derive(Debug, Drop)]

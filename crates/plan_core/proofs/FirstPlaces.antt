@@ -6,7 +6,7 @@ use Rattle.std.proofs.lemmas.List.Elements.{filter-append}
 use Rattle.std.proofs.lemmas.Map.Views.{any-filter_same, exact_unsigned_eq}
 use Rattle.std.specs.List.{filter, list_any}
 use Rattle.indexmap.specs.IndexSet.{insert_key}
-use Rattle.pk_types.specs.ActiveEdges.{first_places}
+use Rattle.pk_text.specs.FirstPlaces.{first_places}
 
 module _ (first number : ℕ) (places : List ℕ) where
   abbrev others : List ℕ → List ℕ

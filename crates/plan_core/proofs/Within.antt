@@ -12,7 +12,7 @@ use Rattle.pk_types.specs.declared.plan.Plan.{Plan}
 use Rattle.pk_types.specs.Fitting.{RowFits, Fits}
 use Rattle.pk_types.specs.Places.{ArePlacesIn}
 use Rattle.emit_chunk.specs.Ranges.{module_of, AreBelow, InRange}
-use Rattle.pk_types.specs.ActiveEdges.{first_places}
+use Rattle.pk_text.specs.FirstPlaces.{first_places}
 use Rattle.plan_core.specs.Edges.{declared_targets, edges_of, declared_edges, edges_where, active_edges}
 use Rattle.plan_core.specs.Closure.{IsReached, IsClosure}
 use Rattle.plan_core.specs.Scopes.{items_along, scope_items}

@@ -3,7 +3,7 @@ use Rattle.std.specs.Prelude.{ℕ, Bool, false, List, [], length, map, if◌then
 use Rattle.std.specs.List.{range_with_len}
 use Rattle.pk_types.specs.declared.graph.Graph.{Graph}
 use Rattle.pk_types.specs.declared.graph.Row.{Row}
-use Rattle.pk_types.specs.ActiveEdges.{first_places}
+use Rattle.pk_text.specs.FirstPlaces.{first_places}
 
 -- the targets of the declarations, in the order of these
 abbrev pub declared_targets : Row → List ℕ

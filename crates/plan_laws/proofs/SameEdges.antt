@@ -13,7 +13,8 @@ use Rattle.pk_types.specs.declared.plan.Used.{Used}
 use Rattle.pk_types.specs.Fitting.{Fits, RowFits}
 use Rattle.pk_types.specs.Requests.{flag_of}
 use Rattle.pk_types.specs.ActiveEdges as general
-use Rattle.pk_types.specs.ActiveEdges.{first_places, GivesEdges, HasEdges, IsLedTo}
+use Rattle.pk_types.specs.ActiveEdges.{GivesEdges, HasEdges, IsLedTo}
+use Rattle.pk_text.specs.FirstPlaces.{first_places}
 use Rattle.emit_chunk.specs.Bare.{IsBare}
 use Rattle.plan_core.specs.Edges.{edges_of, declared_edges, edges_where}
 use Rattle.plan_core.specs.Closure.{IsReached}

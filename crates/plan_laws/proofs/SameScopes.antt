@@ -13,7 +13,7 @@ use Rattle.pk_types.specs.declared.plan.Item.{Item}
 use Rattle.pk_types.specs.declared.plan.Item.TheVariants.{Evaluate}
 use Rattle.pk_types.specs.HoistSets.{Scene, IsRoot, AreHoistSets, edges_at, set_of}
 use Rattle.pk_types.specs.HoistItems.{Visits, Follows, AreItems, AreHoists}
-use Rattle.pk_types.specs.ActiveEdges.{first_places}
+use Rattle.pk_text.specs.FirstPlaces.{first_places}
 use Rattle.plan_core.specs.Edges.{declared_targets, edges_of, declared_edges, edges_where}
 use Rattle.plan_core.specs.Plans.{IsActive}
 use Rattle.plan_core.specs.Scopes.{items_along, scope_items, AreOwnScopes}

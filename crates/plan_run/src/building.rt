@@ -17,7 +17,7 @@ use pk_types::{Facts, Form, Graph, Kind, Request, Row, Sequence, Text};
 use std::alloc::{AllocError, Global};
 
 // More rounds than a graph has modules.
-const ROUNDS: u32 = 20_000;
+const ROUNDS: u32 = 40_000;
 
 // The facts of a module with these requests, of which those in the order are of declarations.
 fn importing(alloc: Global, requests: Sequence<Request>, order: Sequence<u32>) -> Facts
@@ -48,6 +48,7 @@ fn requests_of(alloc: Global, count: u32) -> Result<Vec<Request>, AllocError>
         requests.push(Request {
             text: Text::from_slice(alloc, b"")?,
             form: Form::Import,
+            json: false,
         })?;
     }
     Ok(requests)

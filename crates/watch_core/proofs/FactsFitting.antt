@@ -39,7 +39,7 @@ distinct_first count = IsDistinct-from_apart nat_eq (range_with_len 0 count) (λ
 -- ---- the facts
 
 abbrev import_of : List ℕ → Request
-import_of text = record { text = text; form = Import }
+import_of text = record { text = text; form = Import; json = false }
 
 is_imported : (said : ModuleText) (place : ℕ) → IsImported (facts_of said) place
 is_imported said place = subst (λ found. IfSome found (λ request. request.form ≡ Import)) (sym (slice_get-map import_of said.requests place)) (by (slice_get said.requests place))

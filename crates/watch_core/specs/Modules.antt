@@ -1,5 +1,5 @@
 -- A module of a tree, and the first fault of one.
-use Rattle.std.specs.Prelude.{◌≡◌, ℕ, ◌+◌, ◌<◌, ◌≤◌, ◌++◌, List, [], None, Some, length, map}
+use Rattle.std.specs.Prelude.{◌≡◌, ℕ, ◌+◌, ◌<◌, ◌≤◌, ◌++◌, List, [], false, None, Some, length, map}
 use Rattle.std.specs.List.{range_with_len}
 use Rattle.pk_base.specs.Calls.{Held}
 use Rattle.pk_base.specs.Paths.{folder_of}
@@ -55,7 +55,7 @@ pub data HasFault (t : Held) (before : ℕ) (known : List (List ℕ)) (path : Li
 
 -- the requests of import declarations
 abbrev pub imported : List (List ℕ) → List Request
-imported texts = map (λ text. record { text = text; form = Import }) texts
+imported texts = map (λ text. record { text = text; form = Import; json = false }) texts
 
 -- the facts of a module that imports each of these and binds nothing
 abbrev pub facts_of : ModuleText → Facts

@@ -28,6 +28,7 @@ fn imported(alloc: Global, texts: Sequence<Text>) -> Result<Sequence<Request>, A
         .map(|text| Request {
             text,
             form: Form::Import,
+            json: false,
         })
         .collect(alloc)?;
     Ok(Sequence::from_vec(requests))

@@ -30,7 +30,7 @@ fn show_script(rt: &HostRuntime) -> io::Result<()> {
 
 fn show_module(rt: &HostRuntime) -> io::Result<()> {
     let mut program = empty(rt.alloc(), ProgramGoal::Module);
-    let added = add_module_items(&mut program);
+    let added = add_module_items(rt.alloc(), &mut program);
     let shown = show(rt, &program);
     give_up(program);
     added?;

@@ -1,6 +1,6 @@
-use es_program::add;
+use es_program::{add, export_item, import_item};
 use es_tree::{Clause, Export, Import, Item, Program, ProgramItem, Space, Stmt, Token, TokenKind};
-use std::alloc::AllocError;
+use std::alloc::{AllocError, Global};
 
 fn token(kind: TokenKind, start: u32, end: u32) -> Token {
     Token {
@@ -36,9 +36,9 @@ pub fn add_script_items(program: &mut Program) -> Result<(), AllocError> {
 }
 
 /// The items of the module `import "a"; import b, * as c from "d"; export * from "e"`.
-pub fn add_module_items(program: &mut Program) -> Result<(), AllocError> {
-    let bare = Import::Bare(word(0, 6), text(7, 10), Some(mark(10, 11)));
-    add(program, ProgramItem::Import(bare))?;
+pub fn add_module_items(alloc: Global, program: &mut Program) -> Result<(), AllocError> {
+    let bare = Import::Bare(word(0, 6), text(7, 10), None, Some(mark(10, 11)));
+    add(program, import_item(alloc, bare)?)?;
     let space = Space {
         star: mark(22, 23),
         word: word(24, 26),
@@ -50,9 +50,17 @@ pub fn add_module_items(program: &mut Program) -> Result<(), AllocError> {
         clause,
         word(29, 33),
         text(34, 37),
+        None,
         Some(mark(37, 38)),
     );
-    add(program, ProgramItem::Import(from))?;
-    let all = Export::All(word(39, 45), mark(46, 47), word(48, 52), text(53, 56), None);
-    add(program, ProgramItem::Export(all))
+    add(program, import_item(alloc, from)?)?;
+    let all = Export::All(
+        word(39, 45),
+        mark(46, 47),
+        word(48, 52),
+        text(53, 56),
+        None,
+        None,
+    );
+    add(program, export_item(alloc, all)?)
 }

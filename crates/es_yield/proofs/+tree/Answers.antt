@@ -1,7 +1,7 @@
 -- Each form puts its parts in order.
 use Rattle.std.proofs.Common.{ap, ◌∙◌}
 use Rattle.es_tree.specs.Yield.{item_tokens, case_tokens, stmt_tokens, init_tokens, for_tokens, head_tokens, element_tokens, method_tokens, bind_tokens, target_tokens, assign_tokens, arrow_tokens, operand_tokens, member_tokens, primary_tokens, base_tokens}
-use Rattle.es_grammar.proofs.Laws.{item-Stmt, item-Lex, item-Func, item-Class, stmt-Block, stmt-Empty, stmt-Var, stmt-If, stmt-For, stmt-While, stmt-Do, stmt-Continue, stmt-Break, stmt-Return, stmt-With, stmt-Switch, stmt-Labelled, stmt-Throw, stmt-TryCatch, stmt-TryFinally, stmt-Debugger, stmt-Expr, case-Case, case-Default, for-Loop, for-In, for-Of, init-Var, init-Lex, init-Expr, head-Bind, head-Target, decl_law, bind-Name, bind-Array, bind-Object, bind_property_law, target-Name, target-Member, target-Paren, target-Array, target-Object, target_part_law, func_law, params_law, class_law, element-Empty, element-Method, element-Field, element-Static, method-Method, method-Get, method-Set, assign-Cond, assign-Arrow, assign-Set, assign-Compound, assign-Yield, arrow-Block, arrow-Concise, cond_law, operand-Private, operand-Prefix, operand-Await, operand-Update, operand-LHS, operand-Postfix, lhs_law, base-Primary, base-Super, base-New, base-NewTarget, base-ImportMeta, base-Import, primary-This, primary-Name, primary-Literal, primary-Template, primary-Regex, primary-Array, primary-Object, primary-Func, primary-Class, primary-Paren, member-Shorthand, member-Pair, member-Method, member-Spread}
+use Rattle.es_grammar.proofs.Laws.{item-Stmt, item-Lex, item-Func, item-Class, stmt-Block, stmt-Empty, stmt-Var, stmt-If, stmt-For, stmt-While, stmt-Do, stmt-Continue, stmt-Break, stmt-Return, stmt-With, stmt-Switch, stmt-Labelled, stmt-Throw, stmt-TryCatch, stmt-TryFinally, stmt-Debugger, stmt-Expr, case-Case, case-Default, for-Loop, for-In, for-Of, init-Var, init-Lex, init-Expr, head-Bind, head-Target, decl_law, bind-Name, bind-Array, bind-Object, bind_property_law, target-Name, target-Member, target-ParenName, target-ParenMember, target-Array, target-Object, target_part_law, func_law, params_law, class_law, element-Empty, element-Method, element-Field, element-Static, method-Method, method-Get, method-Set, assign-Cond, assign-Arrow, assign-Set, assign-Compound, assign-Yield, arrow-Block, arrow-Concise, cond_law, operand-Private, operand-Prefix, operand-Await, operand-Update, operand-LHS, operand-Postfix, lhs_law, base-Primary, base-Super, base-New, base-NewTarget, base-ImportMeta, base-Import, primary-This, primary-Name, primary-Literal, primary-Template, primary-Regex, primary-Array, primary-Object, primary-Func, primary-Class, primary-Paren, member-Shorthand, member-Pair, member-Method, member-Spread}
 use Rattle.es_yield.proofs.Sinks.{◌⨾◌, are}
 use Rattle.es_yield.proofs.+tree.Goals as goal
 
@@ -122,8 +122,11 @@ patterns::TargetYields::put-returns-in-Name t c = are (ap target_tokens c.in-Nam
 pub patterns::TargetYields::put-returns-in-Member : goal.patterns::TargetYields::put-returns-in-Member
 patterns::TargetYields::put-returns-in-Member t c = are (ap target_tokens c.in-Member.is ∙ target-Member c.in-Member.member) c.put-in-Member.ensures
 
-pub patterns::TargetYields::put-returns-in-Paren : goal.patterns::TargetYields::put-returns-in-Paren
-patterns::TargetYields::put-returns-in-Paren t c = are (ap target_tokens c.in-Paren.is ∙ target-Paren c.in-Paren.left c.in-Paren.target c.in-Paren.right) (c.put-in-Paren.ensures ⨾ c.put-in-Paren-2.ensures ⨾ c.put-in-Paren-3.ensures)
+pub patterns::TargetYields::put-returns-in-ParenName : goal.patterns::TargetYields::put-returns-in-ParenName
+patterns::TargetYields::put-returns-in-ParenName t c = are (ap target_tokens c.in-ParenName.is ∙ target-ParenName c.in-ParenName.name) c.put-in-ParenName.ensures
+
+pub patterns::TargetYields::put-returns-in-ParenMember : goal.patterns::TargetYields::put-returns-in-ParenMember
+patterns::TargetYields::put-returns-in-ParenMember t c = are (ap target_tokens c.in-ParenMember.is ∙ target-ParenMember c.in-ParenMember.member) c.put-in-ParenMember.ensures
 
 pub patterns::TargetYields::put-returns-in-Array : goal.patterns::TargetYields::put-returns-in-Array
 patterns::TargetYields::put-returns-in-Array t c = are (ap target_tokens c.in-Array.is ∙ target-Array c.in-Array.left c.in-Array.elements c.in-Array.rest c.in-Array.right) (c.put-in-Array.ensures ⨾ c.put-in-Array-2.ensures ⨾ c.put-in-Array-3.ensures ⨾ c.put-in-Array-4.ensures)

@@ -1,5 +1,5 @@
 use Rattle.std.proofs.Common.{ℕ, not, slice_get, option_copied, refl, sym, ap, subst, ◌∙◌}
-use Rattle.pk_types.specs.declared.text.Key.{Key}
+use Rattle.pk_text.specs.declared.text.Key.{Key}
 use Rattle.pk_types.specs.declared.graph.Graph.{Graph}
 use Rattle.export_names.specs.Searching.{Opens, pairs}
 use Rattle.export_names.proofs.Asking.{any_pair, pairs_inserted, asks_foreign, asks_again, asks_first_there}

@@ -5,7 +5,7 @@ use Rattle.std.specs.Option.{IsSome}
 use Rattle.std.specs.Map.{lookup}
 use Rattle.std.proofs.lemmas.List.Elements.{All-pop, All-same}
 use Rattle.pk_base.specs.Memory.{held_in}
-use Rattle.pk_base.specs.Places.{place_of}
+use Rattle.pk_text.specs.Places.{place_of}
 use Rattle.pk_base.proofs.Columns.{content_none, held_first, held_step, held_last}
 use Rattle.pk_base.proofs.mem_files.column_of.Goals as goal
 

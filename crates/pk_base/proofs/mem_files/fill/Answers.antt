@@ -1,7 +1,7 @@
 use Rattle.std.proofs.Common.{◌≡◌, ◌<◌, ◌∙◌, sym, arith, length, Some, []}
 use Rattle.std.specs.Str.{bytes_eq}
 use Rattle.std.proofs.lemmas.List.Quantifiers.{position-Some}
-use Rattle.pk_base.specs.Places.{place_of}
+use Rattle.pk_text.specs.Places.{place_of}
 use Rattle.pk_base.proofs.Columns.{held_set}
 use Rattle.pk_base.proofs.mem_files.fill.Goals as goal
 

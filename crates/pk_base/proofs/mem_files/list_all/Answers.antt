@@ -3,7 +3,7 @@ use Rattle.std.specs.Option.{IsSome}
 use Rattle.std.proofs.lemmas.List.{take_all}
 use Rattle.std.proofs.lemmas.List.Elements.{All-more, All-same, All-weaker}
 use Rattle.pk_base.specs.Memory.{AreKnown}
-use Rattle.pk_base.specs.Places.{place_of}
+use Rattle.pk_text.specs.Places.{place_of}
 use Rattle.pk_base.proofs.mem_files.list_all.Goals as goal
 
 pub loop-tree-preserved : goal.loop-tree-preserved

@@ -1,5 +1,5 @@
 use Rattle.std.proofs.Common.{◌≡◌, ap, ◌∙◌, get_or}
-use Rattle.pk_base.specs.Places.{place_of}
+use Rattle.pk_text.specs.Places.{place_of}
 use Rattle.pk_base.proofs.Columns.{is_some_of, still_known, known_more, known_all}
 use Rattle.pk_base.proofs.mem_files.list_paths.Goals as goal
 

@@ -1,7 +1,7 @@
 -- the first places so far
 use Rattle.std.proofs.Common.{◌≡◌, map, take}
 use Rattle.std.specs.Prelude.{slice_index}
-use Rattle.pk_types.specs.ActiveEdges.{first_places}
+use Rattle.pk_text.specs.FirstPlaces.{first_places}
 use Rattle.plan_core.proofs.edges.edges_of.Given as goal
 
 abbrev pub invariant-loop-request : goal.invariant-loop-request

@@ -4,13 +4,13 @@ use Rattle.es_yield.proofs.Sinks.{◌⨾◌, are}
 use Rattle.es_yield.proofs.program.ExportYields.put.Goals as goal
 
 pub returns-in-All : goal.returns-in-All
-returns-in-All c = are (ap export_tokens c.in-All.is) (c.put.ensures ⨾ c.put-in-All.ensures ⨾ c.put-in-All-2.ensures ⨾ c.put-in-All-3.ensures ⨾ c.put-in-All-4.ensures)
+returns-in-All c = are (ap export_tokens c.in-All.is) (c.put.ensures ⨾ c.put-in-All.ensures ⨾ c.put-in-All-2.ensures ⨾ c.put-in-All-3.ensures ⨾ c.put-in-All-4.ensures ⨾ c.put-in-All-5.ensures)
 
 pub returns-in-Space : goal.returns-in-Space
-returns-in-Space c = are (ap export_tokens c.in-Space.is) (c.put-in-Space.ensures ⨾ c.put-in-Space-2.ensures ⨾ c.put-in-Space-3.ensures ⨾ c.put-in-Space-4.ensures ⨾ c.put-in-Space-5.ensures ⨾ c.put-in-Space-6.ensures ⨾ c.put-in-Space-7.ensures)
+returns-in-Space c = are (ap export_tokens c.in-Space.is) (c.put-in-Space.ensures ⨾ c.put-in-Space-2.ensures ⨾ c.put-in-Space-3.ensures ⨾ c.put-in-Space-4.ensures ⨾ c.put-in-Space-5.ensures ⨾ c.put-in-Space-6.ensures ⨾ c.put-in-Space-7.ensures ⨾ c.put-in-Space-8.ensures)
 
 pub returns-in-From : goal.returns-in-From
-returns-in-From c = are (ap export_tokens c.in-From.is) (c.put-in-From.ensures ⨾ c.put-in-From-2.ensures ⨾ c.put-in-From-3.ensures ⨾ c.put-in-From-4.ensures ⨾ c.put-in-From-5.ensures)
+returns-in-From c = are (ap export_tokens c.in-From.is) (c.put-in-From.ensures ⨾ c.put-in-From-2.ensures ⨾ c.put-in-From-3.ensures ⨾ c.put-in-From-4.ensures ⨾ c.put-in-From-5.ensures ⨾ c.put-in-From-6.ensures)
 
 pub returns-in-Names : goal.returns-in-Names
 returns-in-Names c = are (ap export_tokens c.in-Names.is) (c.put-in-Names.ensures ⨾ c.put-in-Names-2.ensures ⨾ c.put-in-Names-3.ensures)

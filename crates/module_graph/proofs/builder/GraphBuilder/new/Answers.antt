@@ -1,4 +1,5 @@
 use Rattle.std.proofs.Common.{◌≤◌, [], length, map, slice_get, ap, subst, ◌∙◌}
+use Rattle.pk_types.specs.declared.limits.TheConstants.{MAX_MODULES}
 use Rattle.module_graph.specs.Known.{with_paths, numbers_in}
 use Rattle.module_graph.proofs.Builds.{starts, same_building}
 use Rattle.module_graph.proofs.Sights.{by_path}
@@ -10,7 +11,7 @@ invariant_of-result c =
     let paths = c.args.entries.items in
     let known = c.in_ok-entries.ensures.known ∙ ap (λ l. with_paths l c.args.entries.items) none in
     let entries = c.in_ok-entries.ensures.numbers ∙ ap (λ l. numbers_in (with_paths l c.args.entries.items) c.args.entries.items) none in
-    let few = subst (λ l. length (with_paths l c.args.entries.items) ≤ 16384) none c.in_ok-entries.ensures.few in
+    let few = subst (λ l. length (with_paths l c.args.entries.items) ≤ MAX_MODULES) none c.in_ok-entries.ensures.few in
     same_building c.number.new.known.keys (with_paths [] c.args.entries.items) c.new.result.items [] c.in_ok-entries.entries.items (numbers_in (with_paths [] c.args.entries.items) c.args.entries.items)
     known c.new.ensures.items entries (starts c.args.entries.items c.requires few)
 

@@ -1,0 +1,129 @@
+//! The cursor, and the token at a place.
+ghost use Rattle.std.specs.Prelude.{◌≡◌, ◌≤◌, length, drop, Ok, Err, IfOk, IfErr, IfSome};
+ghost use Rattle.es_tree.specs.Lexical.{token_at};
+ghost use Rattle.es_tree.specs.Places.{LiesBehind};
+ghost use Rattle.es_tree.specs.Utf8.{byte};
+ghost use Rattle.es_reader.specs.Basics as spec;
+ghost use Rattle.es_reader.specs.Basics.{Reads};
+ghost use Rattle.es_cursor.specs.Standing.{Lies, Stands};
+ghost use Rattle.es_cursor.specs.Seen.{IsSeen};
+
+use es_lexer::next_token;
+use es_reader::ParseFault;
+use es_tree::{Goal, LexFault, Token};
+use std::alloc::Global;
+use std::marker::Model;
+
+/// A token that was looked at, with the place that it was read from and the goal.
+#[derive(Clone, Copy, Debug, PartialEq, Eq)]
+pub struct Seen {
+    pub at: u32,
+    pub goal: Goal,
+    pub token: Token,
+    /// Whether the same token stands there at each goal: it begins neither `/` nor `}`.
+    pub at_each_goal: bool,
+}
+
+/// A text, with the token that was looked at last.
+#[derive(Drop)]
+pub struct Cursor<'a> {
+    pub(crate) text: &'a [u8],
+    pub(crate) alloc: Global,
+    seen: Option<Seen>,
+}
+
+impl<'a> Model for Cursor<'a> {
+    ghost use Rattle.std.specs.Prelude.{List, ℕ, IfSome};
+    ghost use Rattle.es_cursor.specs.Seen.{IsSeen};
+
+    ghost Value = { List ℕ };
+
+    ghost view = { λ cursor. cursor.text.now };
+
+    ghost invariant = { λ cursor. IfSome cursor.seen (IsSeen cursor.text.now) };
+}
+
+// The byte at a place, or 0 at the end.
+fn byte_at(text: &[u8], place: u32) -> u8
+    requires { place ≤ length text.now }
+    ensures { result ≡ byte (drop place text.now) 0 }
+{
+    let (_, rest) = text.split_at(place as usize);
+    match rest.first() {
+        Some(first) => *first,
+        None => 0,
+    }
+}
+
+// The token at a place, with what is remembered of it.
+fn look(text: &[u8], goal: Goal, at: u32) -> Result<Seen, LexFault>
+    requires { Stands text.now at }
+    ensures fault { IfErr result (λ fault. token_at text.now at goal ≡ Err fault) }
+    ensures seen { IfOk result (λ seen. (seen.at ≡ at) × (seen.goal ≡ goal) × IsSeen text.now seen) }
+{
+    let token = next_token(text, at, goal)?;
+    let first = byte_at(text, token.start);
+    Ok(Seen {
+        at,
+        goal,
+        token,
+        at_each_goal: first != b'/' && first != b'}',
+    })
+}
+
+impl<'a> Cursor<'a> {
+    /// A cursor that has looked at nothing. What is made while it reads takes memory of `alloc`.
+    pub fn new(alloc: Global, text: &'a [u8]) -> Cursor<'a>
+        ensures { result ≡ text.now }
+    {
+        Cursor {
+            text,
+            alloc,
+            seen: None,
+        }
+    }
+
+    /// The number of bytes of the text.
+    pub fn len(&self) -> usize
+        ensures { result ≡ length self.now }
+    {
+        self.text.len()
+    }
+
+    /// The memory that parts of the tree are made in.
+    pub fn alloc(&self) -> Global {
+        self.alloc
+    }
+
+    // The token that is remembered, where it stands at this place and goal.
+    fn remembered(&self, goal: Goal, at: u32) -> Option<Token>
+        ensures { IfSome result (λ token. (token_at self.now at goal ≡ Ok token) × LiesBehind self.now at token) }
+    {
+        let seen = self.seen?;
+        if seen.at == at && (seen.at_each_goal || seen.goal == goal) {
+            Some(seen.token)
+        } else {
+            None
+        }
+    }
+
+    /// The token at a place, read at a goal.
+    #[tactic(auto, unfolding(es_reader::specs::Basics::token))]
+    pub fn token(&mut self, goal: Goal, at: u32) -> Result<Token, ParseFault>
+        requires { Stands self.old at }
+        ensures reads { Reads (spec.token self.old goal at) result }
+        ensures lies { IfOk result (Lies self.old) }
+        ensures kept { self.new ≡ self.old }
+    {
+        if let Some(token) = self.remembered(goal, at) {
+            return Ok(token);
+        }
+        match look(self.text, goal, at) {
+            Ok(seen) => {
+                self.seen = Some(seen);
+                Ok(seen.token)
+            }
+            Err(_) => Err(ParseFault::Syntax),
+        }
+    }
+}

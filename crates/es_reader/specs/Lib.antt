@@ -1,0 +1,15 @@
+pub mod Basics
+pub mod Loops
+pub mod Readers
+pub mod Semis
+pub mod Lists
+pub mod EndedLists
+pub mod Functions
+pub mod Shapes
+pub mod Soundness
+pub mod Expressions
+pub mod Targets
+pub mod Operators
+pub mod Statements
+pub mod Modules
+pub mod Tying

@@ -1,0 +1,32 @@
+//! What a recursive-descent parser of ECMAScript reads, as pure functions from a text and a place to a part of the tree and
+//! the place where it ends: one for each production of `es_grammar`, over the readers of what nests in it.
+//!
+//! No tree is made here. The parser's crates prove that each of their functions gives exactly what its reader gives, and
+//! `reading_is_sound` says that whatever is read stands in the text by the grammar.
+#![tactic(auto)]
+
+mod pieces;
+
+pub use pieces::{
+    BareOf, CallableOf, ConditionOf, HeadOf, InsideOf, Operands, PartsOf, Shape, Source, Tail, TurnOf,
+};
+
+use std::alloc::AllocError;
+
+/// Why there is no tree.
+#[derive(Clone, Copy, Debug, PartialEq, Eq)]
+pub enum ParseFault {
+    Syntax,
+    NoMemory,
+}
+
+impl From<AllocError> for ParseFault {
+    ghost use Rattle.std.specs.Prelude.{◌≡◌};
+    ghost use Rattle.es_reader.specs.declared.ParseFault.TheVariants.{NoMemory};
+
+    ghost from_gives = { λ _ fault. fault ≡ NoMemory };
+
+    fn from(_: AllocError) -> ParseFault {
+        ParseFault::NoMemory
+    }
+}
