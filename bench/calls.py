@@ -1,10 +1,12 @@
 #!/usr/bin/env python3
 """Times `pack build` of one file of 4 MiB of calls against bench/plain_calls.rs (rustc -O), in one run.
 
-Prints the least processor time of each over 21 runs in turn, their ratio, and the most memory that pack took.
+Prints the least processor time of each over 21 runs in turn, their ratio, and the most memory that pack's own process
+had in place at once over these runs (the peak of its resident set, with the pages of its file that it touched). The
+system counts into a process's peak what the process that starts it has in place at that moment, so each program is
+started by a small interpreter of its own, whose own peak is printed too: nothing below it can be told.
 Run it as: python3 bench/calls.py
 """
-import os
 import subprocess
 import sys
 import tempfile
@@ -27,15 +29,23 @@ def text():
         k += 1
 
 
+# Starts the program that its words name, waits for that very process, and tells its status, processor seconds and KiB.
+STARTER = """
+import posix, sys
+pid = posix.posix_spawn(sys.argv[1], sys.argv[1:], posix.environ)
+_, status, used = posix.wait4(pid, 0)
+print(status, used.ru_utime + used.ru_stime, used.ru_maxrss, file=sys.stderr)
+"""
+
+
 def once(words, folder):
     """Processor seconds and peak KiB of one run of a program in a folder, and what it printed."""
-    with tempfile.TemporaryFile() as out:
-        child = subprocess.Popen(words, cwd=folder, stdout=out)
-        _, status, used = os.wait4(child.pid, 0)
-        out.seek(0)
-        if status:
-            sys.exit(f"{words} ended with {status}")
-        return used.ru_utime + used.ru_stime, used.ru_maxrss, out.read()
+    starter = [sys.executable, "-I", "-S", "-c", STARTER, *map(str, words)]
+    ended = subprocess.run(starter, cwd=folder, capture_output=True, check=True)
+    status, seconds, peak = ended.stderr.split()[-3:]
+    if int(status):
+        sys.exit(f"{words} ended with {int(status)}")
+    return float(seconds), int(peak), ended.stdout
 
 
 def main():
@@ -65,7 +75,8 @@ def main():
             sys.exit("the two programs made different bundles")
         least = {name: min(seconds[name]) for name in words}
         print(f"pack {least['pack'] * 1000:.1f} ms, plain {least['plain'] * 1000:.1f} ms, ratio {least['pack'] / least['plain']:.2f}")
-        print(f"pack took at most {memory / 1024:.1f} MiB")
+        _, least_told, _ = once(["/bin/true"], top)
+        print(f"pack's process had at most {memory / 1024:.1f} MiB in place; less than {least_told / 1024:.1f} MiB can't be told")
 
 
 main()

@@ -1,5 +1,6 @@
 ghost use Rattle.std.specs.Prelude.{◌≤◌, length, IfOk};
 ghost use Rattle.bare_modules.specs.Meaning.{ReadsModule};
+ghost use Rattle.pk_types.specs.declared.limits.TheConstants.{MAX_FILE_LEN};
 
 use crate::draft::Draft;
 use crate::parts::{are_blank, part_of};
@@ -23,7 +24,7 @@ pub struct ModuleText {
 /// What a text says that holds simple calls `NAME(ARGUMENTS);` and declarations `import STRING;` alone. `None` where it
 /// is none of these texts.
 pub fn read_module(alloc: Global, text: &[u8]) -> Result<Option<ModuleText>, AllocError>
-    requires { length text.now ≤ 4194304 }
+    requires { length text.now ≤ MAX_FILE_LEN }
     ensures { IfOk result (ReadsModule text.now) }
 {
     let mut draft = Draft::new(alloc, text.len())?;

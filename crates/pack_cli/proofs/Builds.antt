@@ -7,21 +7,21 @@ use Rattle.pk_base.specs.Meanings.{FilesMeaning, StoreMeaning}
 use Rattle.pk_types.specs.declared.plan.Plan.{Plan}
 use Rattle.plan_core.specs.Outputs.{output_of}
 use Rattle.plan_core.specs.Plans.{IsPlan}
-use Rattle.watch_core.specs.Asking.{AsksOnce}
+use Rattle.pk_base.specs.Keeping.{KeepsFiles}
 use Rattle.watch_core.specs.Builds.{FindsBehind}
 use Rattle.watch_core.specs.Walks.{IsWritable}
-use Rattle.watch_core.specs.declared.walk.Found.{Found}
+use Rattle.watch_core.specs.declared.walk.FoundModules.{FoundModules}
 use Rattle.pack_cli.specs.declared.faults.RoundFault.{RoundFault}
 use Rattle.pack_cli.specs.declared.faults.RoundFault.TheVariants.{NoMemory}
-use Rattle.pack_cli.specs.Answers.{is_write_fault}
+use Rattle.pack_cli.specs.Answers.{is_read_fault, is_write_fault}
 use Rattle.pack_cli.specs.Output.{Bundle, Files, IsBundle, built_lines}
-use Rattle.pack_cli.specs.Round.{AsksFiles, HoldsOutput, HasLostPut, IsBuilt, IsUnwritten}
+use Rattle.pack_cli.specs.Round.{HoldsOutput, HasLostPut, IsBuilt, IsUnwritten}
 
 abbrev pub bundle : Files → ℕ → ℕ → Bundle
 bundle files modules groups = record { files = files; modules = modules; groups = groups }
 
 -- the files and the counts are those of a bundle
-pub is_bundle : (found : Found) (plan : Plan) (files : Files) (modules groups : ℕ) → IsWritable found → IsPlan found.graph plan → files ≡ output_of found.graph plan found.bodies → modules ≡ length (slice_index_or plan.chunks.modules 0 []) → groups ≡ length plan.groups.targets
+pub is_bundle : (found : FoundModules) (plan : Plan) (files : Files) (modules groups : ℕ) → IsWritable found → IsPlan found.graph plan → files ≡ output_of found.graph plan found.bodies → modules ≡ length (slice_index_or plan.chunks.modules 0 []) → groups ≡ length plan.groups.targets
     → IsBundle found (bundle files modules groups)
 is_bundle found plan files modules groups w p f m g = record {
   writable = w;
@@ -31,11 +31,11 @@ is_bundle found plan files modules groups w p f m g = record {
       ∙ ap (λ n. bundle (output_of found.graph plan found.bodies) (length (slice_index_or plan.chunks.modules 0 [])) n) g;
 }
 
-pub built : (lines : List ℕ) (found : Found) (files : Files) (modules groups : ℕ) (old new : FilesMeaning) (store store_after : StoreMeaning) → IsBundle found (bundle files modules groups)
+pub built : (lines : List ℕ) (found : FoundModules) (files : Files) (modules groups : ℕ) (old new : FilesMeaning) (store store_after : StoreMeaning) → IsBundle found (bundle files modules groups)
     → (IsTrue old.told → FindsBehind old.tree old.asks new.asks (Ok found)) → lines ≡ built_lines (bundle files modules groups) → HoldsOutput files store store_after → IsBuilt lines old new store store_after
 built lines found files modules groups old new store store_after h f l put = record { found = found; bundle = bundle files modules groups; made = h; of_tree = f; lines_are = l; store_holds = put }
 
-pub unwritten : (found : Found) (files : Files) (modules groups : ℕ) (old new : FilesMeaning) (store store_after : StoreMeaning) → IsBundle found (bundle files modules groups)
+pub unwritten : (found : FoundModules) (files : Files) (modules groups : ℕ) (old new : FilesMeaning) (store store_after : StoreMeaning) → IsBundle found (bundle files modules groups)
     → (IsTrue old.told → FindsBehind old.tree old.asks new.asks (Ok found)) → HasLostPut files store store_after → IsUnwritten old new store store_after
 unwritten found files modules groups old new store store_after h f lost = record { found = found; bundle = bundle files modules groups; made = h; of_tree = f; store_lost = lost }
 
@@ -44,10 +44,8 @@ unwritten found files modules groups old new store store_after h f lost = record
 abbrev pub refusal : RoundFault → Result (List ℕ) RoundFault
 refusal fault = Err fault
 
-pub no_memory_asks : (answer : Result (List ℕ) RoundFault) (fault : RoundFault) (old new : FilesMeaning) → answer ≡ refusal fault → fault ≡ NoMemory
-    → new.told ≡ old.told → new.tree ≡ old.tree → new.coming ≡ old.coming → AsksOnce old.asks new.asks → Counts false old.faults new.faults → AsksFiles answer old new
-no_memory_asks answer fault old new is f told tree coming asks faults = subst (λ answer. AsksFiles answer old new) (sym (is ∙ ap refusal f))
-    (record { told = told; tree = tree; coming = coming; asks = asks; faults = faults })
+pub no_memory_reads : (answer : Result (List ℕ) RoundFault) (fault : RoundFault) (old new : FilesMeaning) → answer ≡ refusal fault → fault ≡ NoMemory → KeepsFiles false [] old new → KeepsFiles (is_read_fault answer) [] old new
+no_memory_reads answer fault old new is f keeps = subst (λ answer. KeepsFiles (is_read_fault answer) [] old new) (sym (is ∙ ap refusal f)) keeps
 
 pub no_memory_writes : (answer : Result (List ℕ) RoundFault) (fault : RoundFault) (count : ℕ) → answer ≡ refusal fault → fault ≡ NoMemory → Counts (is_write_fault answer) count count
 no_memory_writes answer fault count is f = subst (λ answer. Counts (is_write_fault answer) count count) (sym (is ∙ ap refusal f))

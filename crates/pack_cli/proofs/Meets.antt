@@ -2,13 +2,16 @@
 use Rattle.std.proofs.Common.{◌≡◌, ◌≢◌, ℕ, Option, None, List, [], ◌++◌, Result, Ok, Err, IsTrue, refl, sym, ap, subst, ◌∙◌, append-nil}
 use Rattle.std.specs.Prelude.{codes}
 use Rattle.pk_base.specs.Causes.{Rose, Counts}
+use Rattle.pk_base.proofs.Keeping.{asked_once}
+use Rattle.pk_base.specs.Keeping.{KeepsFiles}
 use Rattle.pk_base.specs.Outside.{AddsPrefix}
 use Rattle.pk_base.specs.Meanings.{FilesMeaning, StoreMeaning, SourceMeaning, SinkMeaning}
-use Rattle.pack_cli.specs.Answers.{fault_line, is_write_fault, lines_of}
+use Rattle.pack_cli.specs.Answers.{fault_line, is_read_fault, is_write_fault, lines_of}
 use Rattle.pack_cli.specs.Output.{built_lines}
-use Rattle.pack_cli.specs.Round.{AsksFiles, Rounds}
-use Rattle.pack_cli.specs.Run.{Moment, DoesBuild, BuildMeets, HasCause, IsCalm, PutsLines, RunMeets, usage_line}
-use Rattle.pack_cli.specs.Run.Builds.{refuses, leaves}
+use Rattle.pack_cli.specs.Round.{Rounds}
+use Rattle.pack_cli.specs.Headline.{Headline, Moment}
+use Rattle.pack_cli.specs.Run.{BuildMeets, HasCause, PutsLines, RunMeets, usage_line}
+use Rattle.pack_cli.specs.Headline.Builds.{refuses, leaves}
 use Rattle.pack_cli.specs.Run.PutsLines.{whole, part}
 use Rattle.watch_core.specs.declared.faults.BuildFault.{BuildFault}
 use Rattle.pack_cli.specs.declared.faults.RoundFault.{RoundFault}
@@ -19,7 +22,7 @@ use Rattle.pack_cli.specs.declared.status.Status.TheVariants.{Done, Refused, Usa
 
 -- what stood before a round and what stands after it, but for the sink
 pub record Rounded (answer : Result (List ℕ) RoundFault) (files files_after : FilesMeaning) (store store_after : StoreMeaning) : Type 0 where
-  pub asks : AsksFiles answer files files_after
+  pub keeps : KeepsFiles (is_read_fault answer) [] files files_after
   pub rounds : Rounds answer files files_after store store_after
   pub told : store_after.told ≡ store.told
   pub writes : Counts (is_write_fault answer) store.faults store_after.faults
@@ -30,17 +33,17 @@ moment files store source sink steps = record { files = files; store = store; so
 -- a build has met its promise, once the headline and the cause of its status are there
 meets : (answer : Result (List ℕ) RoundFault) (status : Status) (files files_after : FilesMeaning) (store store_after : StoreMeaning) (source : SourceMeaning) (sink sink_after : SinkMeaning) (steps : ℕ)
     → Rounded answer files files_after store store_after → sink_after.told ≡ sink.told
-    → (IsTrue files.told → IsCalm (moment files store source sink steps) (moment files_after store_after source sink_after steps) → status ≢ NoMemory → DoesBuild files.tree status (moment files store source sink steps) (moment files_after store_after source sink_after steps))
+    → Headline status (moment files store source sink steps) (moment files_after store_after source sink_after steps)
     → HasCause status (moment files store source sink steps) (moment files_after store_after source sink_after steps)
     → BuildMeets status (moment files store source sink steps) (moment files_after store_after source sink_after steps)
 meets answer status files files_after store store_after source sink sink_after steps r told outcome cause =
     record {
       outcome = outcome;
       cause = cause;
-      asks = r.asks.asks;
-      told = record { files = r.asks.told; store = r.told; source = refl; sink = told };
-      tree = r.asks.tree;
-      coming = r.asks.coming;
+      asks = asked_once files.asks files_after.asks r.keeps.asks;
+      told = record { files = r.keeps.told; store = r.told; source = refl; sink = told };
+      tree = r.keeps.tree;
+      coming = r.keeps.coming;
       source = refl;
       steps = refl;
     }
@@ -52,7 +55,7 @@ cut_short : (answer : Result (List ℕ) RoundFault) (files files_after : FilesMe
 cut_short answer files files_after store store_after source sink sink_after steps r told rose added =
     meets answer SinkFault files files_after store store_after source sink sink_after steps r told
     (λ h calm memory. absurd (calm.puts rose))
-    (record { rose = rose; answer = answer; files = r.asks; round = r.rounds; writes = r.writes; part = added })
+    (record { rose = rose; answer = answer; files = r.keeps; round = r.rounds; writes = r.writes; part = added })
 
 pub done_meets : (lines : List ℕ) (status : Status) (files files_after : FilesMeaning) (store store_after : StoreMeaning) (source : SourceMeaning) (sink sink_after : SinkMeaning) (steps : ℕ)
     → Rounded (Ok lines) files files_after store store_after → PutsLines lines Done status sink sink_after
@@ -67,7 +70,7 @@ done_meets lines _ files files_after store store_after source _ _ steps r (whole
       does = record { answer = refl; printed = printed; called = b.store_holds.calls; holds = b.store_holds.files_are; asked = (b.of_tree h).asked };
     })
     (record {
-      quiet = record { reads = r.asks.faults.kept refl; writes = r.writes.kept refl; takes = refl; puts = same };
+      quiet = record { reads = r.keeps.faults.kept refl; writes = r.writes.kept refl; takes = refl; puts = same };
       found = b.found;
       bundle = b.bundle;
       made = b.made;
@@ -89,7 +92,7 @@ refused_meets fault _ files files_after store store_after source _ _ steps r (wh
       does = record { answer = refl; printed = held; called = r.rounds.1.calls ∙ sym (append-nil store.calls); holds = r.rounds.1.files; asked = (r.rounds.0 h).asked };
     })
     (record {
-      quiet = record { reads = r.asks.faults.kept refl; writes = r.writes.kept refl; takes = refl; puts = same };
+      quiet = record { reads = r.keeps.faults.kept refl; writes = r.writes.kept refl; takes = refl; puts = same };
       fault = fault;
       of_tree = r.rounds.0;
       store = r.rounds.1;
@@ -102,7 +105,7 @@ pub read_fault_meets : (status : Status) (files files_after : FilesMeaning) (sto
     → Rounded (Err round.ReadFault) files files_after store store_after → PutsLines (codes "fault read\n") ReadFault status sink sink_after
     → BuildMeets status (moment files store source sink steps) (moment files_after store_after source sink_after steps)
 read_fault_meets _ files files_after store store_after source _ _ steps r (whole sink sink_after told same held) =
-    let rose = r.asks.faults.rose refl in
+    let rose = r.keeps.faults.rose refl in
     meets (Err round.ReadFault) ReadFault files files_after store store_after source sink sink_after steps r told
     (λ h calm memory. absurd (calm.reads rose))
     (record { rose = rose; writes = r.writes.kept refl; puts = same; store = r.rounds; printed = held })
@@ -116,7 +119,7 @@ write_fault_meets _ files files_after store store_after source _ _ steps r (whol
     let rose = r.writes.rose refl in
     meets (Err round.WriteFault) WriteFault files files_after store store_after source sink sink_after steps r told
     (λ h calm memory. absurd (calm.writes rose))
-    (record { rose = rose; reads = r.asks.faults.kept refl; puts = same; round = r.rounds; printed = held })
+    (record { rose = rose; reads = r.keeps.faults.kept refl; puts = same; round = r.rounds; printed = held })
 write_fault_meets _ files files_after store store_after source _ _ steps r (part sink sink_after told rose added) =
     cut_short (Err round.WriteFault) files files_after store store_after source sink sink_after steps r told rose added
 

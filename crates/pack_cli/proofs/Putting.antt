@@ -1,7 +1,7 @@
 -- Files that are put one after another.
 use Rattle.std.proofs.Common.{◌≡◌, ℕ, List, [], ◌∷◌, ◌++◌, Some, Result, Ok, Err, IsTrue, OnErr, length, take, drop, get_or, ◌<◌, ◌+◌, refl, sym, ap, subst, ◌∙◌, append_assoc}
 use Rattle.std.proofs.lemmas.List.{take_more, drop_more, take-append-drop}
-use Rattle.pk_base.specs.Calls.{Held}
+use Rattle.pk_base.specs.FileTree.{FileTree}
 use Rattle.pk_base.specs.Meanings.{StoreMeaning}
 use Rattle.pk_base.specs.Outside.{set_at, Tried, ChangesOnly}
 use Rattle.pk_base.specs.declared.outside.Call.{Call}
@@ -21,7 +21,7 @@ calls_more : (files : Files) (file : OutFile) → put_calls (files ++ file ∷ [
 calls_more [] file = refl
 calls_more (next ∷ files) file = ap (λ calls. Put next.name ∷ calls) (calls_more files file)
 
-all_more : (files : Files) (file : OutFile) (held : Held) → put_all (files ++ file ∷ []) held ≡ set_at file.name (Some file.bytes) (put_all files held)
+all_more : (files : Files) (file : OutFile) (held : FileTree) → put_all (files ++ file ∷ []) held ≡ set_at file.name (Some file.bytes) (put_all files held)
 all_more [] file held = refl
 all_more (next ∷ files) file held = all_more files file (set_at next.name (Some next.bytes) held)
 
@@ -32,7 +32,7 @@ called files i file name old now new e h n was is =
     ∙ append_assoc old (put_calls (take i files)) (Put file.name ∷ [])
     ∙ ap (λ calls. old ++ calls) (sym (calls_more (take i files) file)) ∙ ap (λ l. old ++ put_calls l) (sym (one_more files i file e h))
 
-pub held : (files : Files) (i : ℕ) (file : OutFile) (name bytes : List ℕ) (old now new : Held) → file ≡ get_or files i file → i < length files → name ≡ file.name → bytes ≡ file.bytes → now ≡ put_all (take i files) old → new ≡ set_at name (Some bytes) now
+pub held : (files : Files) (i : ℕ) (file : OutFile) (name bytes : List ℕ) (old now new : FileTree) → file ≡ get_or files i file → i < length files → name ≡ file.name → bytes ≡ file.bytes → now ≡ put_all (take i files) old → new ≡ set_at name (Some bytes) now
     → new ≡ put_all (take (i + 1) files) old
 held files i file name bytes old now new e h n b was is =
     is ∙ ap (λ word. set_at word (Some bytes) now) n ∙ ap (λ l. set_at file.name (Some l) now) b ∙ ap (set_at file.name (Some file.bytes)) was

@@ -1,4 +1,5 @@
 pub mod Answers
+pub mod Headline
 pub mod Numbers
 pub mod Output
 pub mod Round

@@ -1,7 +1,7 @@
 -- The bundle of a tree, and the lines that a round prints of it.
 use Rattle.std.specs.Prelude.{◌≡◌, ℕ, List, [], ◌∷◌, ◌++◌, length, Some, codes, slice_index_or}
 use Rattle.std.specs.Fmt.{decimal}
-use Rattle.pk_base.specs.Calls.{Held}
+use Rattle.pk_base.specs.FileTree.{FileTree}
 use Rattle.pk_base.specs.Outside.{set_at}
 use Rattle.pk_base.specs.declared.outside.Call.{Call}
 use Rattle.pk_base.specs.declared.outside.Call.TheVariants.{Put}
@@ -13,7 +13,7 @@ use Rattle.plan_core.specs.Plans.{IsPlan}
 use Rattle.plan_core.specs.declared.files.OutFile.{OutFile}
 use Rattle.watch_core.specs.Builds.{HasModules}
 use Rattle.watch_core.specs.Walks.{IsWritable}
-use Rattle.watch_core.specs.declared.walk.Found.{Found}
+use Rattle.watch_core.specs.declared.walk.FoundModules.{FoundModules}
 
 -- files in the order in which they are put
 abbrev pub Files : Type 0
@@ -34,15 +34,15 @@ bundle_of graph plan bodies = record {
 }
 
 -- This is a bundle of modules that can be planned and written.
-pub record IsBundle (found : Found) (bundle : Bundle) : Type 0 where
+pub record IsBundle (found : FoundModules) (bundle : Bundle) : Type 0 where
   pub writable : IsWritable found
   pub plan : Plan
   pub planned : IsPlan found.graph plan
   pub is : bundle ≡ bundle_of found.graph plan found.bodies
 
 -- This is the bundle of the tree, whose modules are found with these asks.
-pub record HasBundle (t : Held) (bundle : Bundle) (asks : List (List ℕ)) : Type 0 where
-  pub found : Found
+pub record HasBundle (t : FileTree) (bundle : Bundle) (asks : List (List ℕ)) : Type 0 where
+  pub found : FoundModules
   pub modules : HasModules t found.graph found.bodies asks
   pub made : IsBundle found bundle
 
@@ -50,7 +50,7 @@ abbrev pub put_calls : Files → List Call
 put_calls [] = []
 put_calls (file ∷ files) = Put file.name ∷ put_calls files
 
-abbrev pub put_all : Files → Held → Held
+abbrev pub put_all : Files → FileTree → FileTree
 put_all [] held = held
 put_all (file ∷ files) held = put_all files (set_at file.name (Some file.bytes) held)
 

@@ -1,25 +1,14 @@
 -- What a round answers, asks and leaves.
 use Rattle.std.specs.Prelude.{◌≡◌, ℕ, List, ◌∷◌, ◌++◌, Result, Ok, Err, IsTrue}
-use Rattle.pk_base.specs.Causes.{Counts}
 use Rattle.pk_base.specs.Meanings.{FilesMeaning, StoreMeaning}
 use Rattle.pk_base.specs.Outside.{Tried, ChangesOnly}
 use Rattle.pk_base.specs.declared.outside.Call.TheVariants.{Put}
 use Rattle.plan_core.specs.declared.files.OutFile.{OutFile}
-use Rattle.watch_core.specs.Asking.{AsksOnce}
 use Rattle.watch_core.specs.Builds.{FindsBehind}
-use Rattle.watch_core.specs.declared.walk.Found.{Found}
+use Rattle.watch_core.specs.declared.walk.FoundModules.{FoundModules}
 use Rattle.pack_cli.specs.declared.faults.RoundFault.{RoundFault}
 use Rattle.pack_cli.specs.declared.faults.RoundFault.TheVariants.{Refused, ReadFault, WriteFault, NoMemory}
-use Rattle.pack_cli.specs.Answers.{is_read_fault}
 use Rattle.pack_cli.specs.Output.{Bundle, Files, IsBundle, put_calls, put_all, built_lines}
-
--- what a round does to its files: they tell what they told, and each path is asked at most once
-pub record AsksFiles (answer : Result (List ℕ) RoundFault) (old new : FilesMeaning) : Type 0 where
-  pub told : new.told ≡ old.told
-  pub tree : new.tree ≡ old.tree
-  pub coming : new.coming ≡ old.coming
-  pub asks : AsksOnce old.asks new.asks
-  pub faults : Counts (is_read_fault answer) old.faults new.faults
 
 -- the store as before
 pub record IsUntouched (old new : StoreMeaning) : Type 0 where
@@ -42,7 +31,7 @@ pub record HasLostPut (files : Files) (old new : StoreMeaning) : Type 0 where
 
 -- a round that was built: a bundle of some modules, which are those of the tree where it is told
 pub record IsBuilt (lines : List ℕ) (files files_after : FilesMeaning) (store store_after : StoreMeaning) : Type 0 where
-  pub found : Found
+  pub found : FoundModules
   pub bundle : Bundle
   pub made : IsBundle found bundle
   pub of_tree : IsTrue files.told → FindsBehind files.tree files.asks files_after.asks (Ok found)
@@ -51,7 +40,7 @@ pub record IsBuilt (lines : List ℕ) (files files_after : FilesMeaning) (store 
 
 -- a round of which a put failed, the same otherwise
 pub record IsUnwritten (files files_after : FilesMeaning) (store store_after : StoreMeaning) : Type 0 where
-  pub found : Found
+  pub found : FoundModules
   pub bundle : Bundle
   pub made : IsBundle found bundle
   pub of_tree : IsTrue files.told → FindsBehind files.tree files.asks files_after.asks (Ok found)
@@ -60,7 +49,8 @@ pub record IsUnwritten (files files_after : FilesMeaning) (store store_after : S
 -- what a round answers and leaves, by its answer
 abbrev pub Rounds : Result (List ℕ) RoundFault → FilesMeaning → FilesMeaning → StoreMeaning → StoreMeaning → Type 0
 Rounds (Ok lines) files files_after store store_after = IsBuilt lines files files_after store store_after
-Rounds (Err (Refused fault)) files files_after store store_after = (IsTrue files.told → FindsBehind files.tree files.asks files_after.asks (Err fault)) × IsUntouched store store_after
+Rounds (Err (Refused fault)) files files_after store store_after =
+    (IsTrue files.told → FindsBehind files.tree files.asks files_after.asks (Err fault)) × IsUntouched store store_after
 Rounds (Err ReadFault) files files_after store store_after = IsUntouched store store_after
 Rounds (Err WriteFault) files files_after store store_after = IsUnwritten files files_after store store_after
 Rounds (Err NoMemory) files files_after store store_after = IsUntouched store store_after

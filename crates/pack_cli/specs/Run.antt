@@ -2,16 +2,17 @@
 use Rattle.std.specs.Prelude.{◌≡◌, ◌≢◌, ℕ, List, [], ◌∷◌, ◌++◌, Option, None, Some, Result, Ok, Err, codes, IsTrue, if◌then◌else◌}
 use Rattle.std.specs.Str.{bytes_eq}
 use Rattle.pk_base.specs.Causes.{Rose, Counts}
-use Rattle.pk_base.specs.Calls.{Held}
+use Rattle.pk_base.specs.FileTree.{FileTree}
 use Rattle.pk_base.specs.Meanings.{FilesMeaning, StoreMeaning, SourceMeaning, SinkMeaning}
 use Rattle.pk_base.specs.Outside.{AddsPrefix}
-use Rattle.pack_cli.specs.Answers.{fault_line, is_write_fault, lines_of}
-use Rattle.watch_core.specs.Asking.{AsksOnce}
+use Rattle.pack_cli.specs.Answers.{fault_line, is_read_fault, is_write_fault, lines_of}
+use Rattle.pack_cli.specs.Headline.{Headline, Moment}
+use Rattle.pk_base.specs.Keeping.{AsksOnce, KeepsFiles}
 use Rattle.watch_core.specs.Builds.{IsFirstFault, FindsBehind}
 use Rattle.watch_core.specs.declared.faults.BuildFault.{BuildFault}
-use Rattle.watch_core.specs.declared.walk.Found.{Found}
+use Rattle.watch_core.specs.declared.walk.FoundModules.{FoundModules}
 use Rattle.pack_cli.specs.Output.{Bundle, Files, HasBundle, IsBundle, put_calls, put_all, built_lines}
-use Rattle.pack_cli.specs.Round.{AsksFiles, IsUntouched, HoldsOutput, IsUnwritten, Rounds}
+use Rattle.pack_cli.specs.Round.{IsUntouched, HoldsOutput, IsUnwritten, Rounds}
 use Rattle.pack_cli.specs.declared.faults.RoundFault.{RoundFault}
 use Rattle.pack_cli.specs.declared.faults.RoundFault.TheVariants as round
 use Rattle.pack_cli.specs.declared.top.Command.{Command}
@@ -19,25 +20,13 @@ use Rattle.pack_cli.specs.declared.top.Command.TheVariants.{Build}
 use Rattle.pack_cli.specs.declared.status.Status.{Status}
 use Rattle.pack_cli.specs.declared.status.Status.TheVariants.{Done, Refused, Usage, ReadFault, WriteFault, SinkFault, NoMemory}
 
--- what the objects that a run is handed mean at one moment
-pub record Moment : Type 0 where
-  pub files : FilesMeaning
-  pub store : StoreMeaning
-  pub source : SourceMeaning
-  pub sink : SinkMeaning
-  pub steps : ℕ
-
--- lines are put to a sink: they stand there and this status is answered, or a first part of them does and it is SinkFault
+-- lines are put to a sink: they stand there and this status is answered, or a first part of them does and it is
+-- SinkFault
 pub data PutsLines (lines : List ℕ) (wanted : Status) : Status → SinkMeaning → SinkMeaning → Type 0 where
-  whole : (old new : SinkMeaning) → new.told ≡ old.told → new.faults ≡ old.faults → (IsTrue old.told → new.held ≡ old.held ++ lines) → PutsLines lines wanted wanted old new
-  part : (old new : SinkMeaning) → new.told ≡ old.told → Rose old.faults new.faults → (IsTrue old.told → AddsPrefix old.held new.held lines) → PutsLines lines wanted SinkFault old new
-
--- no count of faults rose
-pub record IsCalm (old new : Moment) : Type 0 where
-  pub reads : Rose old.files.faults new.files.faults → ⊥
-  pub writes : Rose old.store.faults new.store.faults → ⊥
-  pub takes : Rose old.source.faults new.source.faults → ⊥
-  pub puts : Rose old.sink.faults new.sink.faults → ⊥
+  whole : (old new : SinkMeaning) → new.told ≡ old.told → new.faults ≡ old.faults
+      → (IsTrue old.told → new.held ≡ old.held ++ lines) → PutsLines lines wanted wanted old new
+  part : (old new : SinkMeaning) → new.told ≡ old.told → Rose old.faults new.faults
+      → (IsTrue old.told → AddsPrefix old.held new.held lines) → PutsLines lines wanted SinkFault old new
 
 -- each count of faults stayed
 pub record IsQuiet (old new : Moment) : Type 0 where
@@ -53,40 +42,15 @@ pub record TellSame (old new : Moment) : Type 0 where
   pub source : new.source.told ≡ old.source.told
   pub sink : new.sink.told ≡ old.sink.told
 
--- what a command does to a tree
-pub record Outcome : Type 0 where
-  pub status : Status
-  pub printed : List ℕ
-  pub output : Files
-  pub asks : List (List ℕ)
-
--- the outcome of `build`: the tree is refused with its first fault, or its bundle is left
-pub data Builds (t : Held) : Outcome → Type 0 where
-  refuses : (fault : BuildFault) (asks : List (List ℕ)) → IsFirstFault t fault asks → Builds t (record { status = Refused; printed = fault_line (round.Refused fault); output = []; asks = asks })
-  leaves : (bundle : Bundle) (asks : List (List ℕ)) → HasBundle t bundle asks → Builds t (record { status = Done; printed = built_lines bundle; output = bundle.files; asks = asks })
-
--- the outcome is what was answered, and what the objects mean afterwards
-pub record Does (outcome : Outcome) (status : Status) (old new : Moment) : Type 0 where
-  pub answer : status ≡ outcome.status
-  pub printed : IsTrue old.sink.told → new.sink.held ≡ old.sink.held ++ outcome.printed
-  pub called : new.store.calls ≡ old.store.calls ++ put_calls outcome.output
-  pub holds : IsTrue old.store.told → new.store.files ≡ put_all outcome.output old.store.files
-  pub asked : new.files.asks ≡ old.files.asks ++ outcome.asks
-
--- The headline for `build`: an outcome of the tree is what came.
-pub record DoesBuild (t : Held) (status : Status) (old new : Moment) : Type 0 where
-  pub outcome : Outcome
-  pub of_tree : Builds t outcome
-  pub does : Does outcome status old new
-
 -- the sink's new bytes are these
 abbrev pub Prints : List ℕ → Moment → Moment → Type 0
 Prints lines old new = IsTrue old.sink.told → new.sink.held ≡ old.sink.held ++ lines
 
--- Done comes only with a bundle, which is in the store and whose lines are printed. Where the tree is told, it is the bundle of its modules.
+-- Done comes only with a bundle, which is in the store and whose lines are printed. Where the tree is told, it is the
+-- bundle of its modules.
 pub record IsDone (old new : Moment) : Type 0 where
   pub quiet : IsQuiet old new
-  pub found : Found
+  pub found : FoundModules
   pub bundle : Bundle
   pub made : IsBundle found bundle
   pub of_tree : IsTrue old.files.told → FindsBehind old.files.tree old.files.asks new.files.asks (Ok found)
@@ -94,7 +58,7 @@ pub record IsDone (old new : Moment) : Type 0 where
   pub printed : Prints (built_lines bundle) old new
 
 -- Refused comes only with a fault, whose line is printed. Where the tree is told, it is its first fault.
-pub record IsRefused (old new : Moment) : Type 0 where
+pub record LeavesRefused (old new : Moment) : Type 0 where
   pub quiet : IsQuiet old new
   pub fault : BuildFault
   pub of_tree : IsTrue old.files.told → FindsBehind old.files.tree old.files.asks new.files.asks (Err fault)
@@ -109,7 +73,8 @@ pub record HasReadFault (old new : Moment) : Type 0 where
   pub store : IsUntouched old.store new.store
   pub printed : Prints (codes "fault read\n") old new
 
--- WriteFault comes only where the count of the store's faults rose. Only the files of a bundle that were put, and the one that could not be, may differ. Where the tree is told, it is the bundle of its modules.
+-- WriteFault comes only where the count of the store's faults rose. Only the files of a bundle that were put, and the one
+-- that could not be, may differ. Where the tree is told, it is the bundle of its modules.
 pub record HasWriteFault (old new : Moment) : Type 0 where
   pub rose : Rose old.store.faults new.store.faults
   pub reads : new.files.faults ≡ old.files.faults
@@ -121,7 +86,7 @@ pub record HasWriteFault (old new : Moment) : Type 0 where
 pub record HasSinkFault (old new : Moment) : Type 0 where
   pub rose : Rose old.sink.faults new.sink.faults
   pub answer : Result (List ℕ) RoundFault
-  pub files : AsksFiles answer old.files new.files
+  pub files : KeepsFiles (is_read_fault answer) [] old.files new.files
   pub round : Rounds answer old.files new.files old.store new.store
   pub writes : Counts (is_write_fault answer) old.store.faults new.store.faults
   pub part : IsTrue old.sink.told → AddsPrefix old.sink.held new.sink.held (lines_of answer)
@@ -135,7 +100,7 @@ pub record HasNoMemory (old new : Moment) : Type 0 where
 -- why each status comes, what is printed, and what stands afterwards
 abbrev pub HasCause : Status → Moment → Moment → Type 0
 HasCause Done old new = IsDone old new
-HasCause Refused old new = IsRefused old new
+HasCause Refused old new = LeavesRefused old new
 HasCause Usage old new = ⊥
 HasCause ReadFault old new = HasReadFault old new
 HasCause WriteFault old new = HasWriteFault old new
@@ -144,8 +109,8 @@ HasCause NoMemory old new = HasNoMemory old new
 
 -- What `build` promises.
 pub record BuildMeets (status : Status) (old new : Moment) : Type 0 where
-  -- the headline: where the tree is told, no count rose, and memory sufficed
-  pub outcome : IsTrue old.files.told → IsCalm old new → status ≢ NoMemory → DoesBuild old.files.tree status old new
+  -- the headline: the tree's bundle is left, or its first fault is told
+  pub outcome : Headline status old new
   -- whether or not anything is told: the cause of the status, and that no path is asked twice
   pub cause : HasCause status old new
   pub asks : AsksOnce old.files.asks new.files.asks

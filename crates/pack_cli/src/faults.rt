@@ -8,9 +8,13 @@ use watch_core::BuildFault;
 /// Why a round was not built.
 #[derive(Drop)]
 pub enum RoundFault {
+    /// The tree has this fault.
     Refused(BuildFault),
+    /// A file could not be read.
     ReadFault,
+    /// A file could not be written.
     WriteFault,
+    /// Memory ran out.
     NoMemory,
 }
 

@@ -105,7 +105,8 @@ pub fn built_lines(
     modules: usize,
     groups: usize,
 ) -> Result<Text, AllocError>
-    ensures { IfOk result (λ lines. lines ≡ built_lines (record { files = files.now; modules = modules; groups = groups })) }
+    ensures { IfOk result (λ lines. lines ≡ built_lines
+        (record { files = files.now; modules = modules; groups = groups })) }
 {
     let mut lines = Vec::new(alloc);
     put_file_lines(alloc, &mut lines, files)?;

@@ -1,8 +1,9 @@
 // One build of the present tree.
 ghost use Rattle.std.specs.Prelude.{◌≡◌, [], OnOk, OnErr, is_err, length, slice_index_or};
 ghost use Rattle.pk_base.specs.Causes.{Counts};
-ghost use Rattle.pack_cli.specs.Answers.{is_write_fault};
-ghost use Rattle.pack_cli.specs.Round.{AsksFiles, HasLostPut, HoldsOutput, Rounds};
+ghost use Rattle.pk_base.specs.Keeping.{KeepsFiles};
+ghost use Rattle.pack_cli.specs.Answers.{is_read_fault, is_write_fault};
+ghost use Rattle.pack_cli.specs.Round.{HasLostPut, HoldsOutput, Rounds};
 
 use crate::faults::RoundFault;
 use crate::print::built_lines;
@@ -42,10 +43,12 @@ pub fn round<F: Files, O: Store>(
     files: &mut F,
     out: &mut O,
 ) -> Result<Text, RoundFault>
-    ensures asks { AsksFiles result (F.means files.old) (F.means files.new) }
-    ensures rounds { Rounds result (F.means files.old) (F.means files.new) (O.means out.old) (O.means out.new) }
+    ensures keeps { KeepsFiles (is_read_fault result) [] (F.means files.old) (F.means files.new) }
+    ensures rounds { Rounds result (F.means files.old) (F.means files.new) (O.means out.old)
+        (O.means out.new) }
     ensures told { (O.means out.new).told ≡ (O.means out.old).told }
-    ensures writes { Counts (is_write_fault result) ((O.means out.old).faults) ((O.means out.new).faults) }
+    ensures writes { Counts (is_write_fault result) ((O.means out.old).faults)
+        ((O.means out.new).faults) }
 {
     let found = match find_modules(alloc, files)? {
         Ok(found) => found,

@@ -1,26 +1,26 @@
 -- A tree has one outcome.
 use Rattle.std.proofs.Common.{◌≡◌, ℕ, Bool, true, false, List, [], Result, Ok, Err, sym, ap, subst, ◌∙◌}
 use Rattle.std.proofs.lemmas.Bool.{true≢false}
-use Rattle.pk_base.specs.Calls.{Held}
+use Rattle.pk_base.specs.FileTree.{FileTree}
 use Rattle.watch_core.specs.declared.faults.BuildFault.{BuildFault}
-use Rattle.watch_core.specs.declared.walk.Found.{Found}
+use Rattle.watch_core.specs.declared.walk.FoundModules.{FoundModules}
 use Rattle.watch_laws.proofs.OneAnswer.{one_answer}
 use Rattle.plan_laws.proofs.SamePlans.{plan_once}
 use Rattle.pack_cli.specs.Output.{Bundle, IsBundle, HasBundle, bundle_of, built_lines}
 use Rattle.pack_cli.specs.Answers.{fault_line}
 use Rattle.pack_cli.specs.declared.faults.RoundFault.TheVariants as round
 use Rattle.pack_cli.specs.declared.status.Status.TheVariants.{Done, Refused}
-use Rattle.pack_cli.specs.Run.{Outcome, Builds, refuses, leaves}
+use Rattle.pack_cli.specs.Headline.{Outcome, Builds, refuses, leaves}
 
-abbrev found_of : Found → Result Found BuildFault → Found
+abbrev found_of : FoundModules → Result FoundModules BuildFault → FoundModules
 found_of default (Ok found) = found
 found_of default (Err fault) = default
 
-abbrev fault_of : BuildFault → Result Found BuildFault → BuildFault
+abbrev fault_of : BuildFault → Result FoundModules BuildFault → BuildFault
 fault_of default (Ok found) = default
 fault_of default (Err fault) = fault
 
-abbrev is_found : Result Found BuildFault → Bool
+abbrev is_found : Result FoundModules BuildFault → Bool
 is_found (Ok found) = true
 is_found (Err fault) = false
 
@@ -31,11 +31,11 @@ refused fault asks = record { status = Refused; printed = fault_line (round.Refu
 abbrev built : Bundle → List (List ℕ) → Outcome
 built bundle asks = record { status = Done; printed = built_lines bundle; output = bundle.files; asks = asks }
 
-made_once : (found : Found) (bundle other : Bundle) → IsBundle found bundle → IsBundle found other → bundle ≡ other
+made_once : (found : FoundModules) (bundle other : Bundle) → IsBundle found bundle → IsBundle found other → bundle ≡ other
 made_once found bundle other one two =
     one.is ∙ ap (λ plan. bundle_of found.graph plan found.bodies) (plan_once found.graph one.plan two.plan one.planned two.planned) ∙ sym two.is
 
-module _ (t : Held) where
+module _ (t : FileTree) where
   pub bundle_once : (bundle other : Bundle) (asks others : List (List ℕ)) → HasBundle t bundle asks → HasBundle t other others → (bundle ≡ other) × (asks ≡ others)
   bundle_once bundle other asks others one two =
       let same = one_answer t asks others (Ok one.found) (Ok two.found) one.modules two.modules in

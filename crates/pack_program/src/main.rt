@@ -1,4 +1,7 @@
 //! The bundler's program: it works on the current folder.
+//!
+//! It hands `pack_cli::run` the words behind its name, the files beneath the current folder, the folder `dist` there, and
+//! the standard streams, and exits with the number of the status. What is promised of a run is said there.
 #![tactic(auto)]
 
 ghost use Rattle.std.specs.Prelude.{◌≡◌, ◌<◌};

@@ -10,7 +10,7 @@ use Rattle.std.proofs.lemmas.List.Quantifiers.{position-Some}
 use Rattle.std.proofs.lemmas.Slice.Eq.{bytes_eq-Decides}
 use Rattle.pk_base.specs.Memory.{AreKnown, content_at, held_in}
 use Rattle.pk_text.specs.Places.{place_of}
-use Rattle.pk_base.specs.Calls.{Held}
+use Rattle.pk_base.specs.FileTree.{FileTree}
 use Rattle.pk_base.specs.Outside.{covers, turned}
 
 no_both : (b : Bool) → b ≡ true → b ≡ false → ⊥
@@ -110,10 +110,10 @@ pub held_last : (test : List ℕ → Bool) (files : List (List ℕ × List ℕ))
 held_last test files c found e h = sym (ap (λ fs. option_or (lookup test fs) c) e) ∙ h
 
 -- the first of those to come was taken
-pub turn_taken : {V : Type 0} (f : V → Held) (listed slice : List (List ℕ)) (coming rest : List V) (next : V) (old new : Held) → coming ≡ next ∷ rest → slice ≡ listed → new ≡ (λ path. if covers slice path then f next path else old path) → new ≡ turned listed (map f coming) old
+pub turn_taken : {V : Type 0} (f : V → FileTree) (listed slice : List (List ℕ)) (coming rest : List V) (next : V) (old new : FileTree) → coming ≡ next ∷ rest → slice ≡ listed → new ≡ (λ path. if covers slice path then f next path else old path) → new ≡ turned listed (map f coming) old
 turn_taken f listed slice coming rest next old new e s h = h ∙ ap (λ l. λ path. if covers l path then f next path else old path) s ∙ ap (λ c. turned listed (map f c) old) (sym e)
 
 -- one more of what was listed from the end
-pub one_more : {V W : Type 0} (f : V → Held) (g : W → Held) (xs rest : List V) (x : V) (ys : List W) (y : W) (all : List Held) → xs ≡ rest ++ x ∷ [] → g y ≡ f x → map f xs ++ map g ys ≡ all → map f rest ++ map g (y ∷ ys) ≡ all
+pub one_more : {V W : Type 0} (f : V → FileTree) (g : W → FileTree) (xs rest : List V) (x : V) (ys : List W) (y : W) (all : List FileTree) → xs ≡ rest ++ x ∷ [] → g y ≡ f x → map f xs ++ map g ys ≡ all → map f rest ++ map g (y ∷ ys) ≡ all
 one_more f g xs rest x ys y all e same h =
     ap (λ z. map f rest ++ z ∷ map g ys) same ∙ sym (append_assoc (map f rest) (f x ∷ []) (map g ys)) ∙ sym (ap (λ l. l ++ map g ys) (map-append f rest (x ∷ []))) ∙ sym (ap (λ l. map f l ++ map g ys) e) ∙ h

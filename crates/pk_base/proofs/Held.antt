@@ -4,7 +4,7 @@ use mathlib.Core.Path.{fun_ext}
 use Rattle.std.specs.Str.{bytes_eq}
 use Rattle.std.specs.HashMap.{HashMap, Updates}
 use Rattle.std.proofs.lemmas.Slice.Eq.{bytes_eq-Decides}
-use Rattle.pk_base.specs.Calls.{Held}
+use Rattle.pk_base.specs.FileTree.{FileTree}
 use Rattle.pk_base.specs.Memory.{named}
 use Rattle.pk_base.specs.Outside.{set_at, ChangesOnly, AddsPrefix}
 
@@ -13,10 +13,10 @@ pick true x y h = h refl
 pick false x y h = refl
 
 -- to put what is there changes nothing
-pub set_same : (name : List ℕ) (f : Held) → f ≡ set_at name (f name) f
+pub set_same : (name : List ℕ) (f : FileTree) → f ≡ set_at name (f name) f
 set_same name f = fun_ext (λ other. pick (bytes_eq name other) (f name) (f other) (λ e. sym (ap f ((bytes_eq-Decides name other).0 e))))
 
-pub keeps : (f : Held) (name : List ℕ) → ChangesOnly f f name
+pub keeps : (f : FileTree) (name : List ℕ) → ChangesOnly f f name
 keeps f name = record { value = f name; is = set_same name f }
 
 -- what a map says of a change at one key, as functions

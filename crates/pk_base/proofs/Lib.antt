@@ -3,6 +3,7 @@ pub mod Columns
 pub mod Covers
 pub mod Held
 pub mod Joins
+pub mod Keeping
 pub mod Pieces
 pub mod Readings
 pub mod SegmentPlaces

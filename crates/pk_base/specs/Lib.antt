@@ -1,5 +1,6 @@
-pub mod Calls
 pub mod Causes
+pub mod FileTree
+pub mod Keeping
 pub mod Meanings
 pub mod Memory
 pub mod Outside

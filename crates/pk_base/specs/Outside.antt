@@ -7,7 +7,7 @@ use Rattle.pk_base.specs.declared.outside.Read.TheVariants.{Absent, Bytes, Longe
 use Rattle.pk_base.specs.declared.outside.Call.{Call}
 use Rattle.pk_base.specs.declared.outside.ReadFail.{ReadFail}
 use Rattle.pk_base.specs.declared.outside.ReadFail.TheVariants.{Failed, NoMemory}
-use Rattle.pk_base.specs.Calls.{Held}
+use Rattle.pk_base.specs.FileTree.{FileTree}
 
 -- what a read with a limit answers
 abbrev pub read_of : Option (List ℕ) → ℕ → Read
@@ -21,7 +21,7 @@ Asked old new path (Err Failed) = new ≡ old ++ path ∷ []
 Asked old new path (Err NoMemory) = (new ≡ old) ⊎ (new ≡ old ++ path ∷ [])
 
 -- the same names with one of them holding this, or absent
-abbrev pub set_at : List ℕ → Option (List ℕ) → Held → Held
+abbrev pub set_at : List ℕ → Option (List ℕ) → FileTree → FileTree
 set_at name value files other = if bytes_eq name other then value else files other
 
 -- a call that failed appended itself to the calls, or was short of memory
@@ -29,7 +29,7 @@ abbrev pub Tried : List Call → List Call → Call → Type 0
 Tried old new call = (new ≡ old) ⊎ (new ≡ old ++ call ∷ [])
 
 -- some value under this name, and each other name as it was
-pub record ChangesOnly (old new : Held) (name : List ℕ) : Type 0 where
+pub record ChangesOnly (old new : FileTree) (name : List ℕ) : Type 0 where
   pub value : Option (List ℕ)
   pub is : new ≡ set_at name value old
 
@@ -48,6 +48,6 @@ covers [] path = false
 covers (folder ∷ folders) path = is_under folder path || covers folders path
 
 -- the tree after a turn: the next tree where the list covers, the old one elsewhere
-abbrev pub turned : List (List ℕ) → List Held → Held → Held
+abbrev pub turned : List (List ℕ) → List FileTree → FileTree → FileTree
 turned listed [] old = old
 turned listed (next ∷ rest) old = λ path. if covers listed path then next path else old path

@@ -1,10 +1,10 @@
 -- What the objects of the outside mean when they are made.
 use Rattle.std.specs.Prelude.{ℕ, List, [], ◌∷◌, None, true, false}
-use Rattle.pk_base.specs.Calls.{Held}
+use Rattle.pk_base.specs.FileTree.{FileTree}
 use Rattle.pk_base.specs.Meanings.{FilesMeaning, StoreMeaning, SourceMeaning, SinkMeaning}
 
 -- files that tell the first of these trees, or the empty one, and the others as those to come
-abbrev pub first_of : List Held → FilesMeaning
+abbrev pub first_of : List FileTree → FilesMeaning
 first_of [] = record { told = true; tree = λ path. None; coming = []; asks = []; faults = 0 }
 first_of (tree ∷ coming) = record { told = true; tree = tree; coming = coming; asks = []; faults = 0 }
 

@@ -6,7 +6,7 @@ ghost use Rattle.pk_base.specs.Causes.{Counts, is_failed};
 ghost use Rattle.pk_base.specs.declared.outside.Call.{Call};
 ghost use Rattle.pk_base.specs.declared.outside.Call.TheVariants.{Put, Remove};
 ghost use Rattle.pk_base.specs.declared.outside.ReadFail.TheVariants.{NoMemory};
-ghost use Rattle.pk_base.specs.Calls.{Held};
+ghost use Rattle.pk_base.specs.FileTree.{FileTree};
 ghost use Rattle.pk_base.specs.Outside.{turned, read_of, Asked, set_at, Tried, ChangesOnly, AddsPrefix};
 
 use crate::{Path, Text};

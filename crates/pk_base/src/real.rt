@@ -19,27 +19,40 @@ pub struct FolderFiles<R: std::rt::Files + Drop> {
     faults: u64,
 }
 
-// What stands at a path, up to a limit. No file is at the root, in a folder's place, beneath a file, or under a name
-// that is too long for the system.
+// No file is beneath a file, or under a name that is too long for the system.
+fn is_nowhere(error: &io::Error) -> bool {
+    matches!(
+        error.kind(),
+        ErrorKind::NotFound | ErrorKind::NotADirectory | ErrorKind::InvalidFilename
+    )
+}
+
+// How many bytes the regular file at a path has. What is no regular file is as if it weren't there: a folder, and also what
+// an opening could wait at, as a pipe or a device, so it is not opened.
+fn file_len<R: std::rt::Files>(rt: &R, path: &str) -> io::Result<Option<u64>> {
+    match fs::metadata(rt, path) {
+        Ok(metadata) if metadata.is_file() => Ok(Some(metadata.len())),
+        Ok(_) => Ok(None),
+        Err(error) if is_nowhere(&error) => Ok(None),
+        Err(error) => Err(error),
+    }
+}
+
+// What stands at a path, up to a limit. No file is at the root.
 fn read_file<R: std::rt::Files>(rt: &R, alloc: Global, path: &str, limit: u32) -> io::Result<Read> {
     if path.is_empty() {
         return Ok(Read::Absent);
     }
+    let Some(len) = file_len(rt, path)? else {
+        return Ok(Read::Absent);
+    };
     let mut file = match fs::open(rt, path) {
         Ok(file) => file,
-        Err(error) => {
-            return match error.kind() {
-                ErrorKind::NotFound | ErrorKind::NotADirectory | ErrorKind::InvalidFilename => {
-                    Ok(Read::Absent)
-                }
-                _ => Err(error),
-            };
-        }
+        Err(error) if is_nowhere(&error) => return Ok(Read::Absent),
+        Err(error) => return Err(error),
     };
-    if file.metadata()?.is_dir() {
-        return Ok(Read::Absent);
-    }
-    let mut bytes = Vec::new(alloc);
+    let room = len.min(u64::from(limit)) as usize + 1;
+    let mut bytes = Vec::with_capacity(alloc, room)?;
     (&mut file)
         .take(u64::from(limit) + 1)
         .read_to_end(&mut bytes)?;

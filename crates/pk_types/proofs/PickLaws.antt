@@ -85,7 +85,7 @@ none_moved : (state : SplitState) (candidate : Candidate) (split chunk member : 
     → Contains candidate.chunks chunk → ¬ Contains candidate.modules member
 none_moved state candidate split chunk member apart c among moves =
     let left = subst (λ list. Contains list member) (other_chunk state candidate split chunk apart
-        ∙ ap (λ b. cond b (without candidate.modules (chunk_at state chunk)) (chunk_at state chunk)) (has-true candidate.chunks chunk among)) c in
+    ∙ ap (λ b. cond b (without candidate.modules (chunk_at state chunk)) (chunk_at state chunk)) (has-true candidate.chunks chunk among)) c in
     true≢false (sym (has-true candidate.modules member moves) ∙ not_so _ (unfiltered (λ number. not (has candidate.modules number)) (chunk_at state chunk) member left).1)
 
 -- the modules of a candidate stand by number

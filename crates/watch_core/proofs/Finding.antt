@@ -5,19 +5,21 @@ use Rattle.std.specs.Map.{keys_of}
 use Rattle.std.specs.Str.{bytes_eq}
 use Rattle.std.proofs.lemmas.List.Elements.{All-nil}
 use Rattle.std.proofs.lemmas.Map.Keys.{IsDistinct-from_apart}
-use Rattle.pk_base.specs.Calls.{Held}
+use Rattle.pk_base.specs.FileTree.{FileTree}
+use Rattle.pk_base.specs.Keeping.{KeepsSeen}
+use Rattle.pk_base.specs.declared.outside.ReadFail.{ReadFail}
 use Rattle.pk_base.specs.Meanings.{FilesMeaning}
 use Rattle.pk_base.specs.declared.outside.Read.{Read}
 use Rattle.pk_base.specs.declared.outside.Read.TheVariants.{Absent, Bytes, Longer}
 use Rattle.module_graph.specs.Known.{with_path, with_paths}
-use Rattle.watch_core.specs.Asking.{Entries, AreOf, Sees, AsksSeen}
+use Rattle.watch_core.specs.Asking.{Entries, AreOf, Looks, Sees}
 use Rattle.watch_core.specs.Trees.{seen, is_there, first_there, looked_at}
 use Rattle.watch_core.specs.Walks.{Walks}
 use Rattle.watch_core.specs.Builds.{pack_json, index_js, other_candidates, candidate_fault, HasEntry, HasFirstFault, IsFirstFault, Finds, FindsBehind}
 use Rattle.watch_core.specs.Builds.HasFirstFault.{settings, entry, of_module}
 use Rattle.watch_core.specs.declared.faults.BuildFault.{BuildFault}
 use Rattle.watch_core.specs.declared.faults.BuildFault.TheVariants.{NotBuilt}
-use Rattle.watch_core.specs.declared.walk.Found.{Found}
+use Rattle.watch_core.specs.declared.walk.FoundModules.{FoundModules}
 
 absent : (read : Read) → is_there read ≡ false → read ≡ Absent
 absent Absent h = refl
@@ -25,7 +27,7 @@ absent (Bytes bytes) h = absurd (true≢false h)
 absent Longer h = absurd (true≢false h)
 
 -- settings stand there
-pub by_settings : (t : Held) (path : List ℕ) (keys new : List (List ℕ)) (there : Bool) (fault : BuildFault) → path ≡ pack_json → keys ≡ [] → there ≡ is_there (seen t path) → there ≡ true → new ≡ with_path keys path → fault ≡ NotBuilt path → IsFirstFault t fault new
+pub by_settings : (t : FileTree) (path : List ℕ) (keys new : List (List ℕ)) (there : Bool) (fault : BuildFault) → path ≡ pack_json → keys ≡ [] → there ≡ is_there (seen t path) → there ≡ true → new ≡ with_path keys path → fault ≡ NotBuilt path → IsFirstFault t fault new
 by_settings t path keys new there fault p e h on n f = record {
   looked = pack_json ∷ [];
   is = subst (λ g. HasFirstFault t g (pack_json ∷ [])) (sym (f ∙ ap NotBuilt p)) (settings (sym (ap (λ q. is_there (seen t q)) p) ∙ sym h ∙ on));
@@ -33,10 +35,10 @@ by_settings t path keys new there fault p e h on n f = record {
 }
 
 -- no settings stand there
-pub no_settings : (t : Held) (path : List ℕ) (there : Bool) → path ≡ pack_json → there ≡ is_there (seen t path) → there ≡ false → seen t pack_json ≡ Absent
+pub no_settings : (t : FileTree) (path : List ℕ) (there : Bool) → path ≡ pack_json → there ≡ is_there (seen t path) → there ≡ false → seen t pack_json ≡ Absent
 no_settings t path there p h off = absent (seen t pack_json) (sym (ap (λ q. is_there (seen t q)) p) ∙ sym h ∙ off)
 
-no_entry : (t : Held) (path : List ℕ) (there : Bool) → path ≡ index_js → there ≡ is_there (seen t path) → there ≡ false → seen t index_js ≡ Absent
+no_entry : (t : FileTree) (path : List ℕ) (there : Bool) → path ≡ index_js → there ≡ is_there (seen t path) → there ≡ false → seen t index_js ≡ Absent
 no_entry t path there p h off = absent (seen t index_js) (sym (ap (λ q. is_there (seen t q)) p) ∙ sym h ∙ off)
 
 -- the paths that were seen before the modules
@@ -45,7 +47,7 @@ seen_before settings_path entry_path keys mid after p q e m n =
     n ∙ ap (λ k. with_path k entry_path) (m ∙ ap (λ k. with_path k settings_path) e)
     ∙ ap (λ path. with_path (with_path [] path) entry_path) p ∙ ap (λ path. with_path (with_path [] pack_json) path) q
 
-pub by_candidates : (t : Held) (entry_path : List ℕ) (candidates after new : List (List ℕ)) (there : Bool) (fault : BuildFault) → seen t pack_json ≡ Absent → entry_path ≡ index_js → there ≡ is_there (seen t entry_path) → there ≡ false
+pub by_candidates : (t : FileTree) (entry_path : List ℕ) (candidates after new : List (List ℕ)) (there : Bool) (fault : BuildFault) → seen t pack_json ≡ Absent → entry_path ≡ index_js → there ≡ is_there (seen t entry_path) → there ≡ false
     → candidates ≡ other_candidates → after ≡ with_paths [] (pack_json ∷ index_js ∷ []) → new ≡ with_paths after (looked_at t candidates) → fault ≡ candidate_fault (first_there t candidates) → IsFirstFault t fault new
 by_candidates t entry_path candidates after new there fault none q h off c a n f = record {
   looked = pack_json ∷ index_js ∷ looked_at t other_candidates;
@@ -53,11 +55,11 @@ by_candidates t entry_path candidates after new there fault none q h off c a n f
   asked = n ∙ ap (λ k. with_paths k (looked_at t candidates)) a ∙ ap (λ paths. with_paths [] (pack_json ∷ index_js ∷ looked_at t paths)) c;
 }
 
-finds_modules : (t : Held) (after new : List (List ℕ)) (answer : Result Found BuildFault) → HasEntry t → after ≡ with_paths [] (pack_json ∷ index_js ∷ []) → Walks t index_js after new answer → Finds t new answer
+finds_modules : (t : FileTree) (after new : List (List ℕ)) (answer : Result FoundModules BuildFault) → HasEntry t → after ≡ with_paths [] (pack_json ∷ index_js ∷ []) → Walks t index_js after new answer → Finds t new answer
 finds_modules t after new (Ok found) has a w = record { entry = has; looked = w.0; modules = w.1; asked = w.2 ∙ ap (λ k. with_paths k w.0) a }
 finds_modules t after new (Err fault) has a w = record { looked = pack_json ∷ index_js ∷ w.0; is = of_module fault w.0 has w.1; asked = w.2 ∙ ap (λ k. with_paths k w.0) a }
 
-pub by_walk : (t : Held) (entry_path : List ℕ) (after new : List (List ℕ)) (there : Bool) (answer : Result Found BuildFault) → seen t pack_json ≡ Absent → entry_path ≡ index_js → there ≡ is_there (seen t entry_path) → there ≡ true
+pub by_walk : (t : FileTree) (entry_path : List ℕ) (after new : List (List ℕ)) (there : Bool) (answer : Result FoundModules BuildFault) → seen t pack_json ≡ Absent → entry_path ≡ index_js → there ≡ is_there (seen t entry_path) → there ≡ true
     → after ≡ with_paths [] (pack_json ∷ index_js ∷ []) → (IsTrue (is_there (seen t entry_path)) → Walks t entry_path after new answer) → Finds t new answer
 by_walk t entry_path after new there answer none q h on a w =
     finds_modules t after new answer (record { settings = none; entry = subst (λ path. IsTrue (is_there (seen t path))) q (sym h ∙ on) }) a (subst (λ path. Walks t path after new answer) q (w (sym h ∙ on)))
@@ -66,13 +68,13 @@ by_walk t entry_path after new there answer none q h on a w =
 pub sees_nothing : (files : FilesMeaning) (entries : Entries) → IsTrue files.told → entries ≡ [] → Sees files entries files.tree
 sees_nothing files entries told e = record { told = told; tree = refl; all = subst (AreOf files.tree) (sym e) (All-nil (λ entry. entry.1 ≡ seen files.tree entry.0)) }
 
-pub asked_nothing : (asks : List (List ℕ)) (entries : Entries) → entries ≡ [] → AsksSeen asks asks entries
-asked_nothing asks entries e = record { is = sym (ap (λ l. asks ++ keys_of l) e ∙ append-nil asks); once = subst (λ l. IsDistinct bytes_eq (keys_of l)) (sym e) (IsDistinct-from_apart bytes_eq [] (λ i j d h k. absurd (omega arith))) }
-
-pub if_ok_on : {T E : Type 0} (P Q : T → Type 0) (R : Type 0) (result : Result T E) → ((x : T) → P x → R → Q x) → IfOk result P → OnOk result R → IfOk result Q
-if_ok_on P Q R (Ok x) f h r = f x h r
-if_ok_on P Q R (Err e) f h r = h
-
 -- behind the asks before
-pub finds_behind : (old new : FilesMeaning) (entries : Entries) (answer : Result Found BuildFault) → IsTrue old.told → AsksSeen old.asks new.asks entries → Finds old.tree (keys_of entries) answer → FindsBehind old.tree old.asks new.asks answer
-finds_behind old new entries answer told asks finds = record { asks = keys_of entries; is = finds; asked = asks.is }
+finds_behind : (old new : FilesMeaning) (entries : Entries) (answer : Result FoundModules BuildFault) → KeepsSeen old new [] (keys_of entries) → Finds old.tree (keys_of entries) answer → FindsBehind old.tree old.asks new.asks answer
+finds_behind old new entries answer kept finds = record { asks = keys_of entries; is = finds; asked = kept.files.asks.is ∙ ap (λ l. old.asks ++ l) (sym kept.noted) }
+
+-- what was found by what was seen, which was nothing
+pub finds_all : (old new : FilesMeaning) (sights entries : Entries) (result : Result (Result FoundModules BuildFault) ReadFail) → sights ≡ [] → IfOk result (λ found. (t : FileTree) → Sees old sights t → Finds t (keys_of entries) found) → Looks result old new sights entries
+    → IfOk result (λ found. IsTrue old.told → FindsBehind old.tree old.asks new.asks found)
+finds_all old new sights entries (Ok answer) none value looks = λ told.
+    finds_behind old new entries answer (subst (λ l. KeepsSeen old new (keys_of l) (keys_of entries)) none looks.files) (value old.tree (sees_nothing old sights told none))
+finds_all old new sights entries (Err fail) none value looks = value

@@ -4,7 +4,7 @@ mod FilePaths
 mod Finding
 mod Looking
 mod Outwards
-mod Seeing
+pub mod Seeing
 mod Visiting
 mod WalkEnds
 pub mod WalkPaths

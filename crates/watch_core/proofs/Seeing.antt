@@ -1,8 +1,10 @@
 -- What a look at a new path adds to what was seen.
-use Rattle.std.proofs.Common.{◌≡◌, ℕ, Bool, true, false, List, [], ◌∷◌, ◌++◌, Option, None, Some, Result, Ok, Err, length, refl, sym, ap, subst, ◌∙◌, append_assoc, inl, inr, ◌||◌, true≢false, slice_get, get_or, position, ◌≤◌, OnOk, OnErr, IsTrue, arith, if◌then◌else◌}
-use Rattle.std.specs.List.{list_any, IsDistinct, position_or_len}
+use Rattle.std.proofs.Common.{◌≡◌, ℕ, Bool, true, false, List, [], ◌∷◌, ◌++◌, Option, None, Some, Result, Ok, Err, length, refl, sym, ap, subst, ◌∙◌, ◌||◌, true≢false, slice_get, get_or, position, ◌≤◌, OnOk, OnErr, IsTrue, arith, if◌then◌else◌}
+use Rattle.std.specs.List.{list_any, position_or_len}
 use Rattle.std.specs.Option.{option_map}
+use Rattle.std.proofs.lemmas.Result.{err_from_is_err_and}
 use Rattle.std.specs.Map.{keys_of}
+use Rattle.std.specs.Result.{IsErrAnd}
 use Rattle.std.specs.Str.{bytes_eq}
 use Rattle.std.proofs.lemmas.List.Elements.{All-append, All-cons, All-nil}
 use Rattle.std.proofs.lemmas.List.Folds.{list_any_none, list_any_at}
@@ -11,17 +13,19 @@ use Rattle.std.proofs.lemmas.List.Sums.{fails_before_first}
 use Rattle.std.proofs.lemmas.Grind.{common_steps}
 use Rattle.std.proofs.lemmas.Option.{none-some, same_Some, slice_get-map, slice_get-get_or, slice_get_within, get_or_from_slice_get}
 use Rattle.std.specs.Cmp.Lexicographic.{bytes_decides}
+use Rattle.pk_types.specs.declared.limits.TheConstants.{MAX_FILE_LEN}
 use Rattle.module_graph.specs.Known.{with_path}
-use Rattle.module_graph.proofs.Sights.{distinct}
 use Rattle.pk_base.specs.declared.outside.ReadFail.{ReadFail}
 use Rattle.pk_base.specs.declared.outside.ReadFail.TheVariants.{Failed, NoMemory}
 use Rattle.indexmap.specs.IndexMap.{insert_entry}
-use Rattle.pk_base.specs.Calls.{Held}
+use Rattle.pk_base.specs.FileTree.{FileTree}
 use Rattle.pk_base.specs.Meanings.{FilesMeaning}
-use Rattle.pk_base.specs.Outside.{Asked}
+use Rattle.pk_base.specs.Causes.{is_failed}
+use Rattle.pk_base.specs.Keeping.{AsksFor, Keeps, KeepsFiles, KeepsSeen}
+use Rattle.pk_base.proofs.Keeping.{failure, fails_as, reads_new, sees_no_more, then_keeps, then_sees}
 use Rattle.pk_base.specs.declared.outside.Read.{Read}
 use Rattle.watch_core.specs.Trees.{seen, bytes_of}
-use Rattle.watch_core.specs.Asking.{Entries, AreOf, AreShort, Sees, AsksOnce, AsksSeen, StandsAt}
+use Rattle.watch_core.specs.Asking.{Entries, AreOf, AreShort, KeepsSights, Looks, Sees, StandsAt}
 
 -- a new path goes last
 pub adds_last : (entries : Entries) (path : List ℕ) (read : Read) → list_any (bytes_eq path) (keys_of entries) ≡ false → insert_entry bytes_eq entries path read ≡ entries ++ (path, read) ∷ []
@@ -47,19 +51,19 @@ pub keys_with : (entries : Entries) (path : List ℕ) (read : Read) → keys_of 
 keys_with [] path read = refl
 keys_with (entry ∷ entries) path read = ap (λ l. entry.0 ∷ l) (keys_with entries path read)
 
-short_with : (entries new : Entries) (path : List ℕ) (read : Read) → new ≡ entries ++ (path, read) ∷ [] → length (bytes_of read) ≤ 4194304 → AreShort entries → AreShort new
-short_with entries new path read e f h = subst AreShort (sym e) (All-append (λ entry. length (bytes_of entry.1) ≤ 4194304) entries ((path, read) ∷ []) h (All-cons (λ entry. length (bytes_of entry.1) ≤ 4194304) (path, read) [] f (All-nil (λ entry. length (bytes_of entry.1) ≤ 4194304))))
+short_with : (entries new : Entries) (path : List ℕ) (read : Read) → new ≡ entries ++ (path, read) ∷ [] → length (bytes_of read) ≤ MAX_FILE_LEN → AreShort entries → AreShort new
+short_with entries new path read e f h = subst AreShort (sym e) (All-append (λ entry. length (bytes_of entry.1) ≤ MAX_FILE_LEN) entries ((path, read) ∷ []) h (All-cons (λ entry. length (bytes_of entry.1) ≤ MAX_FILE_LEN) (path, read) [] f (All-nil (λ entry. length (bytes_of entry.1) ≤ MAX_FILE_LEN))))
 
 -- whether or not there was memory for it
 pub short_after : {T E : Type 0} (entries new : Entries) (path key : List ℕ) (read : Read) (result : Result T E) → list_any (bytes_eq path) (keys_of entries) ≡ false → key ≡ path → OnOk result (new ≡ insert_entry bytes_eq entries key read)
-    → OnErr result (new ≡ entries) → length (bytes_of read) ≤ 4194304 → AreShort entries → AreShort new
+    → OnErr result (new ≡ entries) → length (bytes_of read) ≤ MAX_FILE_LEN → AreShort entries → AreShort new
 short_after entries new path key read (Ok x) h e ok err f all = short_with entries new path read (added entries new path key read h e ok) f all
 short_after entries new path key read (Err x) h e ok err f all = subst AreShort (sym err) all
 
-of_with : (t : Held) (entries new : Entries) (path : List ℕ) (read : Read) → new ≡ entries ++ (path, read) ∷ [] → read ≡ seen t path → AreOf t entries → AreOf t new
+of_with : (t : FileTree) (entries new : Entries) (path : List ℕ) (read : Read) → new ≡ entries ++ (path, read) ∷ [] → read ≡ seen t path → AreOf t entries → AreOf t new
 of_with t entries new path read e f h = subst (AreOf t) (sym e) (All-append (λ entry. entry.1 ≡ seen t entry.0) entries ((path, read) ∷ []) h (All-cons (λ entry. entry.1 ≡ seen t entry.0) (path, read) [] f (All-nil (λ entry. entry.1 ≡ seen t entry.0))))
 
-pub sees_with : (old files : FilesMeaning) (t : Held) (entries new : Entries) (path : List ℕ) (read : Read) → files.told ≡ old.told → files.tree ≡ old.tree → new ≡ entries ++ (path, read) ∷ [] → (IsTrue old.told → read ≡ seen old.tree path)
+pub sees_with : (old files : FilesMeaning) (t : FileTree) (entries new : Entries) (path : List ℕ) (read : Read) → files.told ≡ old.told → files.tree ≡ old.tree → new ≡ entries ++ (path, read) ∷ [] → (IsTrue old.told → read ≡ seen old.tree path)
     → Sees old entries t → Sees files new t
 sees_with old files t entries new path read told tree e f h = record {
   told = subst IsTrue (sym told) h.told;
@@ -67,7 +71,7 @@ sees_with old files t entries new path read told tree e f h = record {
   all = of_with t entries new path read e (f h.told ∙ ap (λ u. seen u path) h.tree) h.all;
 }
 
-pub sees_on : (old files : FilesMeaning) (t : Held) (entries new : Entries) → files.told ≡ old.told → files.tree ≡ old.tree → new ≡ entries → Sees old entries t → Sees files new t
+pub sees_on : (old files : FilesMeaning) (t : FileTree) (entries new : Entries) → files.told ≡ old.told → files.tree ≡ old.tree → new ≡ entries → Sees old entries t → Sees files new t
 sees_on old files t entries new told tree e h = record { told = subst IsTrue (sym told) h.told; tree = tree ∙ h.tree; all = subst (AreOf t) (sym e) h.all }
 
 -- what a look-up by path found
@@ -100,42 +104,69 @@ pub keys_grow : {T : Type 0} (result : Result T ReadFail) (keys new : List (List
 keys_grow (Ok x) keys new path h e = e ∙ sym (new_known keys path (none_known keys path h))
 keys_grow (Err fail) keys new path h e = e
 
--- what a round has asked for, where nothing or one new path was asked for
-pub asks_once : (start asks : List (List ℕ)) (entries : Entries) → AsksSeen start asks entries → AsksOnce start asks
-asks_once start asks entries h = record { made = keys_of entries; is = h.is; once = h.once }
+-- ---- what a look keeps
 
-asks_with : (start old new : List (List ℕ)) (entries after : Entries) (path : List ℕ) → position (bytes_eq path) (keys_of entries) ≡ None → keys_of after ≡ keys_of entries ++ path ∷ [] → new ≡ old ++ path ∷ [] → AsksSeen start old entries → AsksSeen start new after
-asks_with start old new entries after path h k f e = record {
-  is = f ∙ ap (λ asks. asks ++ path ∷ []) e.is ∙ append_assoc start (keys_of entries) (path ∷ []) ∙ ap (λ keys. start ++ keys) (sym k);
-  once = subst (IsDistinct bytes_eq) (new_known (keys_of entries) path (none_known (keys_of entries) path h) ∙ sym k) (distinct (path ∷ []) (keys_of entries) e.once);
+pub looks_nothing : (files : FilesMeaning) (sights : Entries) → KeepsSights files files sights sights
+looks_nothing files sights = record { files = sees_no_more (keys_of sights) files; sees = λ t h. h }
+
+pub then_sights : (before mid after : FilesMeaning) (sights sights_mid sights_after : Entries) → KeepsSights before mid sights sights_mid → KeepsSights mid after sights_mid sights_after → KeepsSights before after sights sights_after
+then_sights before mid after sights sights_mid sights_after first next = record {
+  files = then_sees before mid after (keys_of sights) (keys_of sights_mid) (keys_of sights_after) first.files next.files;
+  sees = λ t h. next.sees t (first.sees t h);
 }
 
-pub asks_more : {T : Type 0} (old new : List (List ℕ)) (entries after : Entries) (path : List ℕ) (result : Result T ReadFail) → position (bytes_eq path) (keys_of entries) ≡ None → Asked old new path result → OnOk result (keys_of after ≡ keys_of entries ++ path ∷ [])
-    → OnOk result ((start : List (List ℕ)) → AsksSeen start old entries → AsksSeen start new after)
-asks_more old new entries after path (Ok x) h a k = λ start e. asks_with start old new entries after path h k a e
-asks_more old new entries after path (Err fail) h a k = tt
+-- a look behind another, whatever its answer is
+pub then_looks : {T : Type 0} (answer : Result T ReadFail) (before mid after : FilesMeaning) (sights sights_mid sights_after : Entries) → KeepsSights before mid sights sights_mid → Looks answer mid after sights_mid sights_after → Looks answer before after sights sights_after
+then_looks (Ok x) before mid after sights sights_mid sights_after first next = then_sights before mid after sights sights_mid sights_after first next
+then_looks (Err Failed) before mid after sights sights_mid sights_after first next = then_keeps true before mid after (keys_of sights) (keys_of sights_mid) first.files next
+then_looks (Err NoMemory) before mid after sights sights_mid sights_after first next = then_keeps false before mid after (keys_of sights) (keys_of sights_mid) first.files next
 
-once_with : (start old new : List (List ℕ)) (entries : Entries) (path : List ℕ) → position (bytes_eq path) (keys_of entries) ≡ None → new ≡ old ++ path ∷ [] → AsksSeen start old entries → AsksOnce start new
-once_with start old new entries path h f e = record {
-  made = with_path (keys_of entries) path;
-  is = f ∙ ap (λ asks. asks ++ path ∷ []) e.is ∙ append_assoc start (keys_of entries) (path ∷ []) ∙ ap (λ keys. start ++ keys) (sym (new_known (keys_of entries) path (none_known (keys_of entries) path h)));
-  once = distinct (path ∷ []) (keys_of entries) e.once;
+looks_failed : (T : Type 0) (fail : ReadFail) (before after : FilesMeaning) (sights sights_after : Entries) (seen : List (List ℕ)) → Keeps (failure T fail) before after (keys_of sights) seen → Looks (failure T fail) before after sights sights_after
+looks_failed T Failed before after sights sights_after seen h = h
+looks_failed T NoMemory before after sights sights_after seen h = h
+
+keeps_failed : (T : Type 0) (fail : ReadFail) (before after : FilesMeaning) (sights sights_after : Entries) (seen : List (List ℕ)) → Looks (failure T fail) before after sights sights_after → Keeps (failure T fail) before after (keys_of sights) seen
+keeps_failed T Failed before after sights sights_after seen h = h
+keeps_failed T NoMemory before after sights sights_after seen h = h
+
+-- a `?` hands on the failure of a read
+pub read_failed : (T U : Type 0) (fail : ReadFail) (other : Result U ReadFail) (before after : FilesMeaning) (sights sights_after : Entries) (seen : List (List ℕ)) → IsErrAnd other (λ f. f ≡ fail) → Keeps (failure T fail) before after (keys_of sights) seen
+    → Looks other before after sights sights_after
+read_failed T U fail other before after sights sights_after seen e h =
+    let error = err_from_is_err_and other e in
+    subst (λ o. Looks o before after sights sights_after) (sym (error.1 ∙ ap (failure U) error.2))
+    (looks_failed U fail before after sights sights_after [] (fails_as T U fail before after (keys_of sights) [] (keeps_failed T fail before after sights [] [] (looks_failed T fail before after sights [] seen h))))
+
+-- that of a look behind another
+pub look_failed : (T U : Type 0) (fail : ReadFail) (other : Result U ReadFail) (before mid after : FilesMeaning) (sights sights_mid sights_last sights_after : Entries) → KeepsSights before mid sights sights_mid → IsErrAnd other (λ f. f ≡ fail)
+    → Looks (failure T fail) mid after sights_mid sights_last → Looks other before after sights sights_after
+look_failed T U fail other before mid after sights sights_mid sights_last sights_after first e h =
+    read_failed T U fail other before after sights sights_after [] e (keeps_failed T fail before after sights sights_last [] (then_looks (failure T fail) before mid after sights sights_mid sights_last first h))
+
+-- and that of an allocation
+pub lacks_memory : (U : Type 0) (other : Result U ReadFail) (before after : FilesMeaning) (sights sights_mid sights_after : Entries) → KeepsSights before after sights sights_mid → IsErrAnd other (λ f. f ≡ NoMemory) → Looks other before after sights sights_after
+lacks_memory U other before after sights sights_mid sights_after first e = read_failed U U NoMemory other before after sights sights_after [] e first.files.files
+
+-- the files alone
+pub looks_files : {T : Type 0} (answer : Result T ReadFail) (before after : FilesMeaning) (sights sights_after : Entries) → Looks answer before after sights sights_after → KeepsFiles (is_failed answer) (keys_of sights) before after
+looks_files (Ok x) before after sights sights_after h = h.files.files
+looks_files (Err Failed) before after sights sights_after h = h
+looks_files (Err NoMemory) before after sights sights_after h = h
+
+-- a path that was not seen was read
+pub read_kept : {T : Type 0} (answer : Result T ReadFail) (files files_after : FilesMeaning) (entries : Entries) (path key : List ℕ) → list_any (bytes_eq path) (keys_of entries) ≡ false → key ≡ path → AsksFor key answer files files_after
+    → Keeps answer files files_after (keys_of entries) (keys_of entries ++ path ∷ [])
+read_kept answer files files_after entries path key new e asked = reads_new answer path files files_after (keys_of entries) new (subst (λ k. AsksFor k answer files files_after) e asked)
+
+pub added_kept : (files files_after : FilesMeaning) (entries new : Entries) (path : List ℕ) (read : Read) → KeepsSeen files files_after (keys_of entries) (keys_of entries ++ path ∷ []) → (IsTrue files.told → read ≡ seen files.tree path) → new ≡ entries ++ (path, read) ∷ []
+    → KeepsSights files files_after entries new
+added_kept files files_after entries new path read kept answer e = record {
+  files = subst (KeepsSeen files files_after (keys_of entries)) (sym (ap keys_of e ∙ keys_with entries path read)) kept;
+  sees = λ t h. sees_with files files_after t entries new path read kept.files.told kept.files.tree e answer h;
 }
-
-pub once_more : {T : Type 0} (old new : List (List ℕ)) (entries : Entries) (path : List ℕ) (result : Result T ReadFail) → position (bytes_eq path) (keys_of entries) ≡ None → Asked old new path result
-    → OnErr result ((start : List (List ℕ)) → AsksSeen start old entries → AsksOnce start new)
-once_more old new entries path (Ok x) h a = tt
-once_more old new entries path (Err Failed) h a = λ start e. once_with start old new entries path h a e
-once_more old new entries path (Err NoMemory) h (inl a) = λ start e. record { made = keys_of entries; is = a ∙ e.is; once = e.once }
-once_more old new entries path (Err NoMemory) h (inr a) = λ start e. once_with start old new entries path h a e
-
--- a fact that holds after an error, whatever it is
-pub on_err : {T E : Type 0} (P : Type 0) (result : Result T E) → P → OnErr result P
-on_err P (Ok x) p = tt
-on_err P (Err e) p = p
 
 -- what stands at the number of a path is what the tree has there
-pub stands_seen : (files : FilesMeaning) (entries : Entries) (t : Held) (n : ℕ) (path : List ℕ) (read : Read) → Sees files entries t → StandsAt entries n path → option_map (λ entry. entry.1) (slice_get entries n) ≡ Some read → seen t path ≡ read
+pub stands_seen : (files : FilesMeaning) (entries : Entries) (t : FileTree) (n : ℕ) (path : List ℕ) (read : Read) → Sees files entries t → StandsAt entries n path → option_map (λ entry. entry.1) (slice_get entries n) ≡ Some read → seen t path ≡ read
 stands_seen files entries t n path read h at e =
     let same : at.read ≡ read = same_Some at.read read (sym (ap (option_map (λ entry. entry.1)) at.is) ∙ e) in
     let item : get_or entries n (path, at.read) ≡ (path, at.read) = get_or_from_slice_get entries n (path, at.read) (path, at.read) at.is in

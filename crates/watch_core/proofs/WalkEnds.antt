@@ -1,12 +1,13 @@
 -- What is answered once the modules were followed, or at the first fault of one.
 use Rattle.std.proofs.Common.{◌≡◌, ℕ, Result, Ok, Err, ◌≤◌, ◌<◌, List, ◌∷◌, ◌++◌, Some, length, map, take, drop, refl, sym, ap, subst, ◌∙◌, slice_get}
 use Rattle.std.proofs.lemmas.List.{map-append, length-map, take_at}
+use Rattle.pk_types.specs.declared.limits.TheConstants.{MAX_MODULES, MAX_SOURCE_BYTES}
 use Rattle.emit_body.specs.declared.body.Body.{Body}
 use Rattle.module_graph.specs.Building.{Building, so_far, leaf_of}
 use Rattle.module_graph.specs.Known.{with_path, with_paths}
 use Rattle.module_graph.specs.ModuleGraph.{labels_of}
 use Rattle.module_graph.specs.ModuleOrder.{IsModuleOrder}
-use Rattle.pk_base.specs.Calls.{Held}
+use Rattle.pk_base.specs.FileTree.{FileTree}
 use Rattle.pk_types.specs.declared.graph.Graph.{Graph}
 use Rattle.pk_types.specs.declared.graph.Row.{Row}
 use Rattle.watch_core.proofs.Looking.{with_more}
@@ -14,7 +15,7 @@ use Rattle.watch_core.proofs.WalkPaths.{IsThere, there_at}
 use Rattle.watch_core.proofs.WalkSteps.{IsWalking, HasFollowed}
 use Rattle.watch_core.specs.Followed.{AreFollowed, rows_asks}
 use Rattle.watch_core.specs.Modules.{HasFault, modules, module_asks}
-use Rattle.watch_core.specs.Visits.{IsVisited, IsRefused, Visits}
+use Rattle.watch_core.specs.Visits.{IsVisited, RefusesModule, Visits}
 use Rattle.watch_core.specs.Walks.{Walks, building_of}
 use Rattle.watch_core.specs.declared.faults.BuildFault.TheVariants.{TooMany}
 use Rattle.watch_core.specs.declared.faults.BuildFault.{BuildFault}
@@ -26,7 +27,7 @@ pub wanted_is : (building : Building) (number : ℕ) (path : List ℕ) → numbe
 wanted_is building number path e h = ap (slice_get building.known) (sym e) ∙ h
 
 -- the answer of a look at the wanted module, where something stands
-pub looked : (t : Held) (walker : Walker) (path : List ℕ) (keys keys_new : List (List ℕ)) (answer made : Result Visited BuildFault) → slice_get walker.builder.known (length walker.builder.rows) ≡ Some path → HasFollowed t walker → answer ≡ made
+pub looked : (t : FileTree) (walker : Walker) (path : List ℕ) (keys keys_new : List (List ℕ)) (answer made : Result Visited BuildFault) → slice_get walker.builder.known (length walker.builder.rows) ≡ Some path → HasFollowed t walker → answer ≡ made
     → (IsThere t path → Visits t walker.source_bytes path (with_path keys path) keys_new answer) → Visits t walker.source_bytes path (with_path keys path) keys_new made
 looked t walker path keys keys_new answer made wanted followed is look =
     subst (Visits t walker.source_bytes path (with_path keys path) keys_new) is (look (there_at t walker.builder.known (length walker.builder.rows) path wanted followed.there))
@@ -38,7 +39,7 @@ same_building : (building : Building) (known : List (List ℕ)) (rows : List Row
 same_building building known rows entries a b c =
     ap (λ l. built l rows entries) a ∙ ap (λ l. built building.known l entries) b ∙ ap (built building.known building.rows) c
 
-module _ (t : Held) (entry : List ℕ) (walker : Walker) (walking : IsWalking entry walker) (followed : HasFollowed t walker)
+module _ (t : FileTree) (entry : List ℕ) (walker : Walker) (walking : IsWalking entry walker) (followed : HasFollowed t walker)
     (labels : map (λ row. row.label) (so_far walker.builder).rows ≡ walker.builder.known) (order : IsModuleOrder (so_far walker.builder)) where
   row_labels : map (λ row. row.label) walker.builder.rows ≡ take (length walker.builder.rows) walker.builder.known
   row_labels =
@@ -53,7 +54,7 @@ module _ (t : Held) (entry : List ℕ) (walker : Walker) (walking : IsWalking en
     labels = row_labels;
     each = followed.each;
     few = walking.few;
-    few_bytes = subst (λ n. n ≤ 268435456) walking.bytes walking.few_bytes;
+    few_bytes = subst (λ n. n ≤ MAX_SOURCE_BYTES) walking.bytes walking.few_bytes;
     order = order;
   }
 
@@ -75,11 +76,11 @@ module _ (t : Held) (entry : List ℕ) (walker : Walker) (walking : IsWalking en
   )
 
   pub refuses : (path : List ℕ) (fault : BuildFault) (start keys keys_new : List (List ℕ)) → slice_get walker.builder.known (length walker.builder.rows) ≡ Some path → keys ≡ with_paths start (rows_asks t walker.builder.rows)
-      → IsRefused t walker.source_bytes path (with_path keys path) keys_new fault → Walks t entry start keys_new (Err fault)
+      → RefusesModule t walker.source_bytes path (with_path keys path) keys_new fault → Walks t entry start keys_new (Err fault)
   refuses path fault start keys keys_new wanted before h = stops path fault h.asked start keys keys_new wanted (h.is walker.builder.known) before h.looked
 
   pub overflows : (path : List ℕ) (visited : Visited) (start keys keys_new : List (List ℕ)) → slice_get walker.builder.known (length walker.builder.rows) ≡ Some path → keys ≡ with_paths start (rows_asks t walker.builder.rows)
-      → IsVisited t walker.source_bytes path (with_path keys path) keys_new visited → 16384 < length (with_paths walker.builder.known visited.targets.items) → Walks t entry start keys_new (Err (TooMany Modules))
+      → IsVisited t walker.source_bytes path (with_path keys path) keys_new visited → MAX_MODULES < length (with_paths walker.builder.known visited.targets.items) → Walks t entry start keys_new (Err (TooMany Modules))
   overflows path visited start keys keys_new wanted before h many =
       stops path (TooMany Modules) (module_asks t path visited.said.requests) start keys keys_new wanted (modules h.bytes visited.said visited.targets.items h.few h.is many) before h.looked
 

@@ -10,7 +10,7 @@ use Rattle.std.proofs.lemmas.List.Folds.{list_any-append}
 use Rattle.std.proofs.lemmas.Option.{none-some, same_Some, option_and_then_some, get_or_from_slice_get, slice_get_within}
 use Rattle.module_graph.proofs.Sights.{extends}
 use Rattle.module_graph.specs.Known.{with_path, with_paths, number_in, numbers_in}
-use Rattle.pk_base.specs.Calls.{Held}
+use Rattle.pk_base.specs.FileTree.{FileTree}
 use Rattle.watch_core.specs.Followed.{IsKnown, AreKnown}
 use Rattle.watch_core.specs.Targets.{file_at, file_from, files_from, target_from}
 use Rattle.watch_core.specs.Trees.{seen, is_there}
@@ -52,17 +52,17 @@ all_known known (path ∷ paths) =
 
 -- ---- paths at which something stands
 
-abbrev pub IsThere : Held → List ℕ → Type 0
+abbrev pub IsThere : FileTree → List ℕ → Type 0
 IsThere t path = IsTrue (is_there (seen t path))
 
-file_there : (t : Held) (folder request file : List ℕ) → file_from t folder request ≡ Some file → IsThere t file
+file_there : (t : FileTree) (folder request file : List ℕ) → file_from t folder request ≡ Some file → IsThere t file
 file_there t folder request file e = option_and_then_some (file_at t) (target_from folder request) file e (λ path p h. by path (is_there (seen t path)) refl h)
   where
     by : (path : List ℕ) (b : Bool) → is_there (seen t path) ≡ b → cond b (Some path) None ≡ Some file → IsThere t file
     by path true h f = subst (IsThere t) (same_Some path file f) h
     by path false h f = absurd (none-some file f)
 
-pub files_there : (t : Held) (folder : List ℕ) (requests targets : List (List ℕ)) → files_from t folder requests ≡ Some targets → All (IsThere t) targets
+pub files_there : (t : FileTree) (folder : List ℕ) (requests targets : List (List ℕ)) → files_from t folder requests ≡ Some targets → All (IsThere t) targets
 files_there t folder [] targets e = subst (All (IsThere t)) (same_Some [] targets e) (All-nil (IsThere t))
 files_there t folder (request ∷ requests) targets e =
     option_and_then_some (λ file. option_map (λ files. file ∷ files) (files_from t folder requests)) (file_from t folder request) targets e
@@ -82,5 +82,5 @@ all_with P known (path ∷ paths) h e = all_with P (with_path known path) paths 
     by true = h
     by false = All-push P known path h (All-head P path paths e)
 
-pub there_at : (t : Held) (known : List (List ℕ)) (n : ℕ) (path : List ℕ) → slice_get known n ≡ Some path → All (IsThere t) known → IsThere t path
+pub there_at : (t : FileTree) (known : List (List ℕ)) (n : ℕ) (path : List ℕ) → slice_get known n ≡ Some path → All (IsThere t) known → IsThere t path
 there_at t known n path h all = subst (IsThere t) (get_or_from_slice_get known n path path h) (all n path (slice_get_within known n path h))

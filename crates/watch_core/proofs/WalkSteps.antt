@@ -5,6 +5,7 @@ use Rattle.std.proofs.lemmas.List.{length_push, take-append-le, flat_map_more}
 use Rattle.std.proofs.lemmas.List.Elements.{All-push}
 use Rattle.std.proofs.lemmas.List.Sums.{sum_by_push}
 use Rattle.std.proofs.lemmas.Option.{get_or_from_slice_get}
+use Rattle.pk_types.specs.declared.limits.TheConstants.{MAX_MODULES, MAX_SOURCE_BYTES}
 use Rattle.bare_modules.specs.Meaning.{kind_of}
 use Rattle.bare_modules.specs.declared.read.ModuleText.{ModuleText}
 use Rattle.emit_body.specs.Pieces.{HoldsPieces}
@@ -13,7 +14,7 @@ use Rattle.emit_chunk.specs.Bare.{IsBareRow}
 use Rattle.module_graph.proofs.Sights.{extends}
 use Rattle.module_graph.specs.Building.{Building, row_of, wanted_path}
 use Rattle.module_graph.specs.Known.{with_path, with_paths}
-use Rattle.pk_base.specs.Calls.{Held}
+use Rattle.pk_base.specs.FileTree.{FileTree}
 use Rattle.pk_base.specs.Paths.{folder_of}
 use Rattle.pk_types.specs.declared.facts.Kind.TheVariants.{Json}
 use Rattle.pk_types.specs.declared.graph.Row.{Row}
@@ -29,15 +30,15 @@ use Rattle.watch_core.specs.declared.walk.Walker.{Walker}
 pub record IsWalking (entry : List ℕ) (walker : Walker) : Type 0 where
   pub first : take 1 walker.builder.known ≡ entry ∷ []
   pub entries : walker.builder.entries ≡ 0 ∷ []
-  pub few : length walker.builder.known ≤ 16384
+  pub few : length walker.builder.known ≤ MAX_MODULES
   pub bare : All IsBareRow walker.builder.rows
   pub each : length walker.bodies.items ≡ length walker.builder.rows
   pub pieces : All HoldsPieces walker.bodies.items
   pub bytes : walker.source_bytes ≡ source_bytes walker.builder.rows
-  pub few_bytes : walker.source_bytes ≤ 268435456
+  pub few_bytes : walker.source_bytes ≤ MAX_SOURCE_BYTES
 
 -- what holds of it in a tree, where something stands at the entry
-pub record HasFollowed (t : Held) (walker : Walker) : Type 0 where
+pub record HasFollowed (t : FileTree) (walker : Walker) : Type 0 where
   pub each : AllZip (IsFollowed t walker.builder.known) walker.builder.rows walker.bodies.items
   pub there : All (IsThere t) walker.builder.known
 
@@ -48,7 +49,7 @@ pub record IsTaken (old new : Walker) (visited : Visited) : Type 0 where
   pub entries : new.builder.entries ≡ old.builder.entries
   pub body : new.bodies.items ≡ old.bodies.items ++ record { text = visited.said.body; pieces = [] } ∷ []
   pub source_bytes : new.source_bytes ≡ old.source_bytes + visited.size
-  pub few : length new.builder.known ≤ 16384
+  pub few : length new.builder.known ≤ MAX_MODULES
 
 imported_texts : (texts : List (List ℕ)) → map (λ request. request.text) (imported texts) ≡ texts
 imported_texts [] = refl
@@ -56,7 +57,7 @@ imported_texts (text ∷ texts) = ap (λ rest. text ∷ rest) (imported_texts te
 
 -- ---- what was followed stays followed
 
-stays_followed : (t : Held) (known more : List (List ℕ)) (row : Row) (body : Body) → IsFollowed t known row body → IsFollowed t (known ++ more) row body
+stays_followed : (t : FileTree) (known more : List (List ℕ)) (row : Row) (body : Body) → IsFollowed t known row body → IsFollowed t (known ++ more) row body
 stays_followed t known more row body h = record {
   bytes = h.bytes;
   said = h.said;
@@ -85,7 +86,7 @@ zip_push R (first ∷ rows) (other ∷ bodies) row body h e = (h.0, zip_push R r
 wanted_at : (building : Building) (path : List ℕ) → slice_get building.known (length building.rows) ≡ Some path → wanted_path building ≡ path
 wanted_at building path h = get_or_from_slice_get building.known (length building.rows) path [] h
 
-module _ (t : Held) (old new : Walker) (path : List ℕ) (visited : Visited) (keys keys_new : List (List ℕ))
+module _ (t : FileTree) (old new : Walker) (path : List ℕ) (visited : Visited) (keys keys_new : List (List ℕ))
     (wanted : slice_get old.builder.known (length old.builder.rows) ≡ Some path) (taken : IsTaken old new visited) (v : IsVisited t old.source_bytes path (with_path keys path) keys_new visited) where
   abbrev new_row : Row
   new_row = row_of old.builder new.builder.known (facts_of visited.said) visited.targets.items false visited.size
@@ -141,7 +142,7 @@ no_json (request ∷ requests) = λ e. cc
 never_json : (said : ModuleText) → IsModuleTextOf said → said.kind ≢ Json
 never_json said h = subst (λ kind. kind ≢ Json) (sym h.text.kind) (no_json h.text.requests)
 
-pub walks_on : (entry : List ℕ) (old new : Walker) (visited : Visited) → IsTaken old new visited → length old.builder.rows < length old.builder.known → IsText visited → old.source_bytes + visited.size ≤ 268435456
+pub walks_on : (entry : List ℕ) (old new : Walker) (visited : Visited) → IsTaken old new visited → length old.builder.rows < length old.builder.known → IsText visited → old.source_bytes + visited.size ≤ MAX_SOURCE_BYTES
     → IsWalking entry old → IsWalking entry new
 walks_on entry old new visited taken wanted text few h =
     let e = extends visited.targets.items old.builder.known in
@@ -155,5 +156,5 @@ walks_on entry old new visited taken wanted text few h =
       each = omega (arith, h.each, ap length taken.body, ap length taken.row, length_push old.bodies.items body, length_push old.builder.rows row);
       pieces = subst (All HoldsPieces) (sym taken.body) (All-push HoldsPieces old.bodies.items body h.pieces (omega arith));
       bytes = taken.source_bytes ∙ ap (λ n. n + visited.size) h.bytes ∙ sym (sum_by_push (λ row. row.size) old.builder.rows row) ∙ ap source_bytes (sym taken.row);
-      few_bytes = subst (λ n. n ≤ 268435456) (sym taken.source_bytes) few;
+      few_bytes = subst (λ n. n ≤ MAX_SOURCE_BYTES) (sym taken.source_bytes) few;
     }

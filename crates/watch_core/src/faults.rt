@@ -4,10 +4,10 @@ use pk_types::Text;
 /// What there may be too many of.
 #[derive(Clone, Copy, Debug, PartialEq, Eq)]
 pub enum What {
-    /// At most 16,384.
+    /// At most `pk_types::MAX_MODULES`.
     Modules,
 
-    /// At most 268,435,456.
+    /// At most `pk_types::MAX_SOURCE_BYTES`.
     SourceBytes,
 }
 
@@ -23,5 +23,6 @@ pub enum BuildFault {
     /// The file of this path calls for what isn't built yet.
     NotBuilt(Text),
 
+    /// There is more of this than there may be.
     TooMany(What),
 }

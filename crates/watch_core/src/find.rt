@@ -2,9 +2,10 @@
 ghost use Rattle.std.specs.Prelude.{◌≡◌, ◌++◌, ◌∷◌, [], List, ℕ, None, IfOk, OnOk, OnErr, IsTrue};
 ghost use Rattle.std.specs.Map.{keys_of};
 ghost use Rattle.module_graph.specs.Known.{with_paths};
-ghost use Rattle.pk_base.specs.Causes.{Counts, is_failed};
-ghost use Rattle.pk_base.specs.Calls.{Held};
-ghost use Rattle.watch_core.specs.Asking.{Sees, AsksOnce, AsksSeen};
+ghost use Rattle.pk_base.specs.Causes.{is_failed};
+ghost use Rattle.pk_base.specs.FileTree.{FileTree};
+ghost use Rattle.pk_base.specs.Keeping.{KeepsFiles};
+ghost use Rattle.watch_core.specs.Asking.{Looks, Sees};
 ghost use Rattle.watch_core.specs.Builds.{pack_json, index_js, other_candidates, candidate_fault, Finds, FindsBehind};
 ghost use Rattle.watch_core.specs.Trees.{first_there, looked_at};
 ghost use Rattle.watch_core.specs.Walks.{IsWritable};
@@ -13,7 +14,7 @@ use crate::faults::BuildFault;
 use crate::module::not_built;
 use crate::places::Places;
 use crate::sights::Sights;
-use crate::walk::{Found, walk};
+use crate::walk::{FoundModules, walk};
 use pk_base::{Files, Path, ReadFail};
 use pk_types::Text;
 use std::alloc::{AllocError, Global};
@@ -35,15 +36,11 @@ fn look_at_candidates<F: Files>(
     files: &mut F,
     candidates: &[Path],
 ) -> Result<BuildFault, ReadFail>
-    ensures value { IfOk result (λ fault. (t : Held) → Sees (F.means files.old) sights.old t → fault ≡ candidate_fault (first_there t candidates.now)) }
-    ensures keys { OnOk result ((t : Held) → Sees (F.means files.old) sights.old t → keys_of sights.new ≡ with_paths (keys_of sights.old) (looked_at t candidates.now)) }
-    ensures sees { (t : Held) → Sees (F.means files.old) sights.old t → Sees (F.means files.new) sights.new t }
-    ensures asks { OnOk result ((start : List (List ℕ)) → AsksSeen start ((F.means files.old).asks) sights.old → AsksSeen start ((F.means files.new).asks) sights.new) }
-    ensures once { OnErr result ((start : List (List ℕ)) → AsksSeen start ((F.means files.old).asks) sights.old → AsksOnce start ((F.means files.new).asks)) }
-    ensures told { (F.means files.new).told ≡ (F.means files.old).told }
-    ensures tree { (F.means files.new).tree ≡ (F.means files.old).tree }
-    ensures coming { (F.means files.new).coming ≡ (F.means files.old).coming }
-    ensures counts { Counts (is_failed result) ((F.means files.old).faults) ((F.means files.new).faults) }
+    ensures value { IfOk result (λ fault. (t : FileTree) → Sees (F.means files.old) sights.old t
+        → fault ≡ candidate_fault (first_there t candidates.now)) }
+    ensures keys { OnOk result ((t : FileTree) → Sees (F.means files.old) sights.old t
+        → keys_of sights.new ≡ with_paths (keys_of sights.old) (looked_at t candidates.now)) }
+    ensures looks { Looks result (F.means files.old) (F.means files.new) sights.old sights.new }
 {
     match sights.first_there(files, candidates)? {
         Some(path) => Ok(not_built(alloc, path)?),
@@ -56,17 +53,12 @@ fn find<F: Files>(
     alloc: Global,
     sights: &mut Sights,
     files: &mut F,
-) -> Result<Result<Found, BuildFault>, ReadFail>
+) -> Result<Result<FoundModules, BuildFault>, ReadFail>
     requires { sights.old ≡ [] }
-    ensures value { IfOk result (λ found. (t : Held) → Sees (F.means files.old) sights.old t → Finds t (keys_of sights.new) found) }
+    ensures value { IfOk result (λ found. (t : FileTree) → Sees (F.means files.old) sights.old t
+        → Finds t (keys_of sights.new) found) }
     ensures writable { IfOk result (λ answer. IfOk answer IsWritable) }
-    ensures sees { (t : Held) → Sees (F.means files.old) sights.old t → Sees (F.means files.new) sights.new t }
-    ensures asks { OnOk result ((start : List (List ℕ)) → AsksSeen start ((F.means files.old).asks) sights.old → AsksSeen start ((F.means files.new).asks) sights.new) }
-    ensures once { OnErr result ((start : List (List ℕ)) → AsksSeen start ((F.means files.old).asks) sights.old → AsksOnce start ((F.means files.new).asks)) }
-    ensures told { (F.means files.new).told ≡ (F.means files.old).told }
-    ensures tree { (F.means files.new).tree ≡ (F.means files.old).tree }
-    ensures coming { (F.means files.new).coming ≡ (F.means files.old).coming }
-    ensures counts { Counts (is_failed result) ((F.means files.old).faults) ((F.means files.new).faults) }
+    ensures looks { Looks result (F.means files.old) (F.means files.new) sights.old sights.new }
 {
     let places = Places::new(alloc)?;
     if sights.is_there(files, &places.settings)? {
@@ -87,14 +79,12 @@ fn find<F: Files>(
 pub fn find_modules<F: Files>(
     alloc: Global,
     files: &mut F,
-) -> Result<Result<Found, BuildFault>, ReadFail>
-    ensures value { IfOk result (λ found. IsTrue ((F.means files.old).told) → FindsBehind ((F.means files.old).tree) ((F.means files.old).asks) ((F.means files.new).asks) found) }
+) -> Result<Result<FoundModules, BuildFault>, ReadFail>
+    ensures value { IfOk result (λ found. IsTrue ((F.means files.old).told)
+        → FindsBehind ((F.means files.old).tree) ((F.means files.old).asks)
+        ((F.means files.new).asks) found) }
     ensures writable { IfOk result (λ answer. IfOk answer IsWritable) }
-    ensures asks { AsksOnce ((F.means files.old).asks) ((F.means files.new).asks) }
-    ensures told { (F.means files.new).told ≡ (F.means files.old).told }
-    ensures tree { (F.means files.new).tree ≡ (F.means files.old).tree }
-    ensures coming { (F.means files.new).coming ≡ (F.means files.old).coming }
-    ensures counts { Counts (is_failed result) ((F.means files.old).faults) ((F.means files.new).faults) }
+    ensures keeps { KeepsFiles (is_failed result) [] (F.means files.old) (F.means files.new) }
 {
     let mut sights = Sights::new(alloc);
     find(alloc, &mut sights, files)

@@ -2,25 +2,21 @@
 ghost use Rattle.std.specs.Prelude.{◌≡◌, ◌≤◌, ◌+◌, List, ℕ, IfOk, OnOk, OnErr, IsTrue, length, nat_lt, if◌then◌else◌};
 ghost use Rattle.std.specs.Map.{keys_of};
 ghost use Rattle.module_graph.specs.Known.{with_path};
-ghost use Rattle.pk_base.specs.Causes.{Counts, is_failed};
-ghost use Rattle.pk_base.specs.Calls.{Held};
+ghost use Rattle.pk_base.specs.FileTree.{FileTree};
 ghost use Rattle.pk_base.specs.declared.outside.Read.TheVariants as read;
 ghost use Rattle.bare_modules.specs.Meaning.{ReadsModule};
-ghost use Rattle.watch_core.specs.Asking.{Sees, AsksOnce, AsksSeen};
+ghost use Rattle.watch_core.specs.Asking.{Looks, Sees};
 ghost use Rattle.watch_core.specs.Trees.{is_there, seen};
 ghost use Rattle.watch_core.specs.Visits.{IsText, Visits};
 
 use crate::faults::{BuildFault, What};
 use crate::manifest::manifest_paths;
-use crate::sights::{FILE_LIMIT, Sights};
+use crate::sights::Sights;
 use crate::target::files_from;
 use bare_modules::{ModuleText, read_module};
 use pk_base::{Files, Path, Read, ReadFail};
-use pk_types::Text;
+use pk_types::{MAX_FILE_LEN, MAX_SOURCE_BYTES, Text};
 use std::alloc::{AllocError, Global};
-
-/// The most source bytes that a tree may have.
-const SOURCE_LIMIT: u32 = 268_435_456;
 
 /// A module that was looked at.
 #[derive(Drop)]
@@ -49,19 +45,18 @@ fn follow<F: Files>(
     said: Option<ModuleText>,
     size: u32,
 ) -> Result<Result<Visited, BuildFault>, ReadFail>
-    requires { (bytes : List ℕ) × (length bytes ≤ 4194304) × (size ≡ length bytes) × ReadsModule bytes said }
+    requires { (bytes : List ℕ) × (length bytes ≤ MAX_FILE_LEN) × (size ≡ length bytes)
+        × ReadsModule bytes said }
     ensures text { IfOk result (λ answer. IfOk answer (λ visited. IsText visited)) }
-    ensures each { IfOk result (λ answer. IfOk answer (λ visited. length visited.targets.items ≡ length visited.said.requests)) }
+    ensures each { IfOk result (λ answer. IfOk answer (λ visited. length visited.targets.items
+        ≡ length visited.said.requests)) }
     ensures size { IfOk result (λ answer. IfOk answer (λ visited. visited.size ≡ size)) }
-    ensures value { IfOk result (λ visited. (t : Held) (bytes : List ℕ) (before : ℕ) → Sees (F.means files.old) sights.old t → seen t path.now ≡ read.Bytes bytes → ReadsModule bytes said
-        → size ≡ length bytes → before + length bytes ≤ 268435456 → Visits t before path.now (keys_of sights.old) (keys_of sights.new) visited) }
-    ensures sees { (t : Held) → Sees (F.means files.old) sights.old t → Sees (F.means files.new) sights.new t }
-    ensures asks { OnOk result ((start : List (List ℕ)) → AsksSeen start ((F.means files.old).asks) sights.old → AsksSeen start ((F.means files.new).asks) sights.new) }
-    ensures once { OnErr result ((start : List (List ℕ)) → AsksSeen start ((F.means files.old).asks) sights.old → AsksOnce start ((F.means files.new).asks)) }
-    ensures told { (F.means files.new).told ≡ (F.means files.old).told }
-    ensures tree { (F.means files.new).tree ≡ (F.means files.old).tree }
-    ensures coming { (F.means files.new).coming ≡ (F.means files.old).coming }
-    ensures counts { Counts (is_failed result) ((F.means files.old).faults) ((F.means files.new).faults) }
+    ensures value { IfOk result (λ visited. (t : FileTree) (bytes : List ℕ) (before : ℕ)
+        → Sees (F.means files.old) sights.old t → seen t path.now ≡ read.Bytes bytes
+        → ReadsModule bytes said
+        → size ≡ length bytes → before + length bytes ≤ MAX_SOURCE_BYTES
+            → Visits t before path.now (keys_of sights.old) (keys_of sights.new) visited) }
+    ensures looks { Looks result (F.means files.old) (F.means files.new) sights.old sights.new }
 {
     let manifests = manifest_paths(alloc, path)?;
     match sights.first_there(files, manifests.as_slice())? {
@@ -85,9 +80,10 @@ fn follow<F: Files>(
 
 // The fault of a file that is too large, where so many source bytes are left.
 fn too_large(alloc: Global, path: &Path, left: u32) -> Result<BuildFault, AllocError>
-    ensures { IfOk result (λ fault. fault ≡ (if nat_lt left 4194304 then BuildFault.TooMany What.SourceBytes else BuildFault.TooLarge path.now)) }
+    ensures { IfOk result (λ fault. fault ≡
+        (if nat_lt left MAX_FILE_LEN then BuildFault.TooMany What.SourceBytes else BuildFault.TooLarge path.now)) }
 {
-    if left < FILE_LIMIT {
+    if left < MAX_FILE_LEN {
         return Ok(BuildFault::TooMany(What::SourceBytes));
     }
     Ok(BuildFault::TooLarge(Text::from_slice(alloc, path.as_bytes())?))
@@ -101,21 +97,19 @@ pub fn visit<F: Files>(
     path: &Path,
     before: u32,
 ) -> Result<Result<Visited, BuildFault>, ReadFail>
-    requires { before ≤ 268435456 }
-    ensures value { IfOk result (λ visited. (t : Held) → Sees (F.means files.old) sights.old t → IsTrue (is_there (seen t path.now)) → Visits t before path.now (with_path (keys_of sights.old) path.now) (keys_of sights.new) visited) }
+    requires { before ≤ MAX_SOURCE_BYTES }
+    ensures value { IfOk result (λ visited. (t : FileTree) → Sees (F.means files.old) sights.old t
+        → IsTrue (is_there (seen t path.now)) → Visits t before path.now (with_path
+        (keys_of sights.old) path.now) (keys_of sights.new) visited) }
     ensures text { IfOk result (λ answer. IfOk answer (λ visited. IsText visited)) }
-    ensures each { IfOk result (λ answer. IfOk answer (λ visited. length visited.targets.items ≡ length visited.said.requests)) }
-    ensures few { IfOk result (λ answer. IfOk answer (λ visited. before + visited.size ≤ 268435456)) }
-    ensures sees { (t : Held) → Sees (F.means files.old) sights.old t → Sees (F.means files.new) sights.new t }
-    ensures asks { OnOk result ((start : List (List ℕ)) → AsksSeen start ((F.means files.old).asks) sights.old → AsksSeen start ((F.means files.new).asks) sights.new) }
-    ensures once { OnErr result ((start : List (List ℕ)) → AsksSeen start ((F.means files.old).asks) sights.old → AsksOnce start ((F.means files.new).asks)) }
-    ensures told { (F.means files.new).told ≡ (F.means files.old).told }
-    ensures tree { (F.means files.new).tree ≡ (F.means files.old).tree }
-    ensures coming { (F.means files.new).coming ≡ (F.means files.old).coming }
-    ensures counts { Counts (is_failed result) ((F.means files.old).faults) ((F.means files.new).faults) }
+    ensures each { IfOk result (λ answer. IfOk answer (λ visited. length visited.targets.items
+        ≡ length visited.said.requests)) }
+    ensures few { IfOk result (λ answer. IfOk answer
+        (λ visited. before + visited.size ≤ MAX_SOURCE_BYTES)) }
+    ensures looks { Looks result (F.means files.old) (F.means files.new) sights.old sights.new }
 {
     let number = sights.look(files, path)?;
-    let left = SOURCE_LIMIT - before;
+    let left = MAX_SOURCE_BYTES - before;
     let text = match sights.read_at(number) {
         Read::Bytes(text) => text.as_slice(),
         Read::Absent | Read::Longer => return Ok(Err(too_large(alloc, path, left)?)),

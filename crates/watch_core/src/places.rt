@@ -52,7 +52,8 @@ impl Places {
     pub fn new(alloc: Global) -> Result<Places, AllocError>
         ensures settings { IfOk result (λ places. places.settings ≡ pack_json) }
         ensures entry { IfOk result (λ places. places.entry ≡ index_js) }
-        ensures other_candidates { IfOk result (λ places. places.other_candidates.items ≡ other_candidates) }
+        ensures other_candidates { IfOk result (λ places. places.other_candidates.items
+            ≡ other_candidates) }
     {
         Ok(Places {
             settings: path_of(alloc, "pack.json")?,

@@ -3,9 +3,8 @@ ghost use Rattle.std.specs.Prelude.{◌≡◌, ◌++◌, ◌∷◌, [], List, �
 ghost use Rattle.std.specs.Map.{keys_of};
 ghost use Rattle.std.specs.Option.{option_map, option_to_list};
 ghost use Rattle.module_graph.specs.Known.{with_paths};
-ghost use Rattle.pk_base.specs.Causes.{Counts, is_failed};
-ghost use Rattle.pk_base.specs.Calls.{Held};
-ghost use Rattle.watch_core.specs.Asking.{Sees, AsksOnce, AsksSeen};
+ghost use Rattle.pk_base.specs.FileTree.{FileTree};
+ghost use Rattle.watch_core.specs.Asking.{Looks, Sees};
 ghost use Rattle.watch_core.specs.Targets as spec;
 ghost use Rattle.watch_core.specs.Targets.{target_from, file_from, files_from, looked_at_from};
 
@@ -46,15 +45,11 @@ fn file_from<F: Files>(
     folder: &Path,
     request: &[u8],
 ) -> Result<Option<Path>, ReadFail>
-    ensures value { IfOk result (λ file. (t : Held) → Sees (F.means files.old) sights.old t → file ≡ file_from t folder.now request.now) }
-    ensures sees { (t : Held) → Sees (F.means files.old) sights.old t → Sees (F.means files.new) sights.new t }
-    ensures asks { OnOk result ((start : List (List ℕ)) → AsksSeen start ((F.means files.old).asks) sights.old → AsksSeen start ((F.means files.new).asks) sights.new) }
-    ensures once { OnErr result ((start : List (List ℕ)) → AsksSeen start ((F.means files.old).asks) sights.old → AsksOnce start ((F.means files.new).asks)) }
-    ensures keys { OnOk result (keys_of sights.new ≡ with_paths (keys_of sights.old) (option_to_list (target_from folder.now request.now))) }
-    ensures told { (F.means files.new).told ≡ (F.means files.old).told }
-    ensures tree { (F.means files.new).tree ≡ (F.means files.old).tree }
-    ensures coming { (F.means files.new).coming ≡ (F.means files.old).coming }
-    ensures counts { Counts (is_failed result) ((F.means files.old).faults) ((F.means files.new).faults) }
+    ensures value { IfOk result (λ file. (t : FileTree) → Sees (F.means files.old) sights.old t
+        → file ≡ file_from t folder.now request.now) }
+    ensures looks { Looks result (F.means files.old) (F.means files.new) sights.old sights.new }
+    ensures keys { OnOk result (keys_of sights.new ≡ with_paths (keys_of sights.old) (option_to_list
+        (target_from folder.now request.now))) }
 {
     let Some(target) = target_from(folder, request)? else {
         return Ok(None);
@@ -74,6 +69,7 @@ fn put(files: &mut Vec<Path>, file: Path) -> Result<(), AllocError>
 }
 
 /// The files that requests lead to from a folder, if each leads to one. None is looked at behind the first that doesn't.
+#[tactic(auto, using(crate::proofs::Seeing::looks_nothing))]
 pub fn files_from<F: Files>(
     alloc: Global,
     sights: &mut Sights,
@@ -81,16 +77,14 @@ pub fn files_from<F: Files>(
     folder: &Path,
     requests: &[Text],
 ) -> Result<Option<Vec<Path>>, ReadFail>
-    ensures value { IfOk result (λ found. (t : Held) → Sees (F.means files.old) sights.old t → option_map (λ targets. targets.items) found ≡ files_from t folder.now requests.now) }
-    ensures each { IfOk result (λ found. IfSome found (λ targets. length targets.items ≡ length requests.now)) }
-    ensures sees { (t : Held) → Sees (F.means files.old) sights.old t → Sees (F.means files.new) sights.new t }
-    ensures asks { OnOk result ((start : List (List ℕ)) → AsksSeen start ((F.means files.old).asks) sights.old → AsksSeen start ((F.means files.new).asks) sights.new) }
-    ensures once { OnErr result ((start : List (List ℕ)) → AsksSeen start ((F.means files.old).asks) sights.old → AsksOnce start ((F.means files.new).asks)) }
-    ensures keys { OnOk result ((t : Held) → Sees (F.means files.old) sights.old t → keys_of sights.new ≡ with_paths (keys_of sights.old) (looked_at_from t folder.now requests.now)) }
-    ensures told { (F.means files.new).told ≡ (F.means files.old).told }
-    ensures tree { (F.means files.new).tree ≡ (F.means files.old).tree }
-    ensures coming { (F.means files.new).coming ≡ (F.means files.old).coming }
-    ensures counts { Counts (is_failed result) ((F.means files.old).faults) ((F.means files.new).faults) }
+    ensures value { IfOk result (λ found. (t : FileTree) → Sees (F.means files.old) sights.old t
+        → option_map (λ targets. targets.items) found ≡ files_from t folder.now requests.now) }
+    ensures each { IfOk result (λ found. IfSome found (λ targets. length targets.items
+        ≡ length requests.now)) }
+    ensures looks { Looks result (F.means files.old) (F.means files.new) sights.old sights.new }
+    ensures keys { OnOk result ((t : FileTree) → Sees (F.means files.old) sights.old t
+        → keys_of sights.new ≡ with_paths (keys_of sights.old)
+        (looked_at_from t folder.now requests.now)) }
 {
     let mut targets = Vec::new(alloc);
     for request in requests {

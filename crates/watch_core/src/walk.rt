@@ -3,13 +3,13 @@ ghost use Rattle.std.specs.Prelude.{◌≡◌, ◌≢◌, ◌+◌, ◌<◌, ◌�
 ghost use Rattle.std.specs.Map.{keys_of};
 ghost use Rattle.module_graph.specs.Building.{IsWanting, row_of};
 ghost use Rattle.module_graph.specs.Known.{with_paths};
-ghost use Rattle.pk_base.specs.Causes.{Counts, is_failed};
-ghost use Rattle.pk_base.specs.Calls.{Held};
-ghost use Rattle.watch_core.specs.Asking.{Sees, AsksOnce, AsksSeen};
+ghost use Rattle.pk_base.specs.FileTree.{FileTree};
+ghost use Rattle.watch_core.specs.Asking.{Looks, Sees};
 ghost use Rattle.watch_core.specs.Modules.{facts_of};
 ghost use Rattle.watch_core.specs.Trees.{is_there, seen};
 ghost use Rattle.watch_core.specs.Visits.{IsText};
 ghost use Rattle.watch_core.specs.Walks.{IsWritable, Walks};
+ghost use Rattle.pk_types.specs.declared.limits.TheConstants.{MAX_MODULES, MAX_SOURCE_BYTES};
 
 use crate::facts::into_facts;
 use crate::faults::{BuildFault, What};
@@ -23,7 +23,7 @@ use std::alloc::Global;
 
 /// The modules of a tree, with their bodies by number.
 #[derive(Drop)]
-pub struct Found {
+pub struct FoundModules {
     pub graph: Graph,
     pub bodies: Sequence<Body>,
 }
@@ -60,14 +60,20 @@ impl Walker {
         requires wanted { IsWanting self.old.builder }
         requires text { IsText visited }
         requires each { length visited.targets.items ≡ length visited.said.requests }
-        requires few { self.old.source_bytes + visited.size ≤ 268435456 }
-        ensures known { OnOk result (self.new.builder.known ≡ with_paths self.old.builder.known visited.targets.items) }
-        ensures row { OnOk result (self.new.builder.rows ≡ self.old.builder.rows ++ row_of self.old.builder self.new.builder.known (facts_of visited.said) visited.targets.items false visited.size ∷ []) }
+        requires few { self.old.source_bytes + visited.size ≤ MAX_SOURCE_BYTES }
+        ensures known { OnOk result (self.new.builder.known
+            ≡ with_paths self.old.builder.known visited.targets.items) }
+        ensures row { OnOk result (self.new.builder.rows ≡ self.old.builder.rows
+            ++ row_of self.old.builder self.new.builder.known
+            (facts_of visited.said) visited.targets.items false visited.size ∷ []) }
         ensures entries { OnOk result (self.new.builder.entries ≡ self.old.builder.entries) }
-        ensures body { OnOk result (self.new.bodies.items ≡ self.old.bodies.items ++ record { text = visited.said.body; pieces = [] } ∷ []) }
-        ensures source_bytes { OnOk result (self.new.source_bytes ≡ self.old.source_bytes + visited.size) }
-        ensures few { OnOk result (length self.new.builder.known ≤ 16384) }
-        ensures too_many { result ≡ Err GraphFault.TooMany → 16384 < length (with_paths self.old.builder.known visited.targets.items) }
+        ensures body { OnOk result (self.new.bodies.items ≡ self.old.bodies.items
+            ++ record { text = visited.said.body; pieces = [] } ∷ []) }
+        ensures source_bytes { OnOk result (self.new.source_bytes
+            ≡ self.old.source_bytes + visited.size) }
+        ensures few { OnOk result (length self.new.builder.known ≤ MAX_MODULES) }
+        ensures too_many { result ≡ Err GraphFault.TooMany → MAX_MODULES < length
+            (with_paths self.old.builder.known visited.targets.items) }
     {
         let Visited {
             said,
@@ -86,21 +92,18 @@ impl Walker {
 }
 
 /// Follows the requests of the modules from an entry on, at which something stands.
+#[tactic(auto, using(crate::proofs::Seeing::looks_nothing))]
 pub fn walk<F: Files>(
     alloc: Global,
     sights: &mut Sights,
     files: &mut F,
     entry: Path,
-) -> Result<Result<Found, BuildFault>, ReadFail>
-    ensures value { IfOk result (λ found. (t : Held) → Sees (F.means files.old) sights.old t → IsTrue (is_there (seen t entry)) → Walks t entry (keys_of sights.old) (keys_of sights.new) found) }
+) -> Result<Result<FoundModules, BuildFault>, ReadFail>
+    ensures value { IfOk result (λ found. (t : FileTree) → Sees (F.means files.old) sights.old t
+        → IsTrue (is_there (seen t entry)) → Walks t entry (keys_of sights.old)
+        (keys_of sights.new) found) }
     ensures writable { IfOk result (λ answer. IfOk answer IsWritable) }
-    ensures sees { (t : Held) → Sees (F.means files.old) sights.old t → Sees (F.means files.new) sights.new t }
-    ensures asks { OnOk result ((start : List (List ℕ)) → AsksSeen start ((F.means files.old).asks) sights.old → AsksSeen start ((F.means files.new).asks) sights.new) }
-    ensures once { OnErr result ((start : List (List ℕ)) → AsksSeen start ((F.means files.old).asks) sights.old → AsksOnce start ((F.means files.new).asks)) }
-    ensures told { (F.means files.new).told ≡ (F.means files.old).told }
-    ensures tree { (F.means files.new).tree ≡ (F.means files.old).tree }
-    ensures coming { (F.means files.new).coming ≡ (F.means files.old).coming }
-    ensures counts { Counts (is_failed result) ((F.means files.old).faults) ((F.means files.new).faults) }
+    ensures looks { Looks result (F.means files.old) (F.means files.new) sights.old sights.new }
 {
     let mut walker = match Walker::new(alloc, entry) {
         Ok(walker) => walker,
@@ -124,7 +127,7 @@ pub fn walk<F: Files>(
         bodies,
         ..
     } = walker;
-    Ok(Ok(Found {
+    Ok(Ok(FoundModules {
         graph: builder.finish(),
         bodies: Sequence::from_vec(bodies),
     }))

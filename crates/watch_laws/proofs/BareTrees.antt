@@ -2,7 +2,7 @@
 use Rattle.std.proofs.Common.{◌≡◌, ◌≢◌, false, ℕ, List, [], ◌∷◌, map, sym, ap, ◌∙◌}
 use Rattle.std.specs.List.{All, AllZip}
 use Rattle.std.proofs.lemmas.List.Elements.{All-nil, All-cons}
-use Rattle.pk_base.specs.Calls.{Held}
+use Rattle.pk_base.specs.FileTree.{FileTree}
 use Rattle.pk_types.specs.declared.facts.Kind.TheVariants.{Json}
 use Rattle.pk_types.specs.declared.graph.Graph.{Graph}
 use Rattle.pk_types.specs.declared.graph.Row.{Row}
@@ -22,7 +22,7 @@ never_json : (requests : List (List ℕ)) → kind_of requests ≢ Json
 never_json [] e = cc
 never_json (request ∷ requests) e = cc
 
-module _ (t : Held) (known : List (List ℕ)) (row : Row) (body : Body) (followed : IsFollowed t known row body) where
+module _ (t : FileTree) (known : List (List ℕ)) (row : Row) (body : Body) (followed : IsFollowed t known row body) where
   bare_row : IsBareRow row
   bare_row = record {
     kind = λ json. let text = followed.is.read.text in never_json text.requests (sym (ap (λ facts. facts.kind) followed.facts ∙ text.kind) ∙ json);
@@ -30,7 +30,7 @@ module _ (t : Held) (known : List (List ℕ)) (row : Row) (body : Body) (followe
     sites = ap (λ facts. facts.sites) followed.facts;
   }
 
-module _ (t : Held) (graph : Graph) (bodies : List Body) (asks : List (List ℕ)) (has : HasModules t graph bodies asks) where
+module _ (t : FileTree) (graph : Graph) (bodies : List Body) (asks : List (List ℕ)) (has : HasModules t graph bodies asks) where
   pub is_bare : IsBare graph
   is_bare = zip_left (IsFollowed t (map (λ row. row.label) graph.rows)) IsBareRow (bare_row t (map (λ row. row.label) graph.rows)) graph.rows bodies has.modules.followed.each
 

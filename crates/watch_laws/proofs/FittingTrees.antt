@@ -8,7 +8,8 @@ use Rattle.std.proofs.lemmas.List.{length-map}
 use Rattle.std.proofs.lemmas.List.Elements.{All-nil, All-cons, All-map, All-weaker}
 use Rattle.std.proofs.lemmas.Map.Keys.{IsDistinct-from_apart}
 use Rattle.std.proofs.lemmas.Option.{none-some, same_Some, option_and_then_some, slice_get-get_or}
-use Rattle.pk_base.specs.Calls.{Held}
+use Rattle.pk_types.specs.declared.limits.TheConstants.{MAX_FILE_LEN}
+use Rattle.pk_base.specs.FileTree.{FileTree}
 use Rattle.pk_base.specs.Outside.{read_of}
 use Rattle.pk_base.specs.declared.outside.Read.TheVariants.{Bytes, Longer}
 use Rattle.pk_base.specs.Paths.{folder_of}
@@ -38,7 +39,7 @@ few_read (Some text) limit bytes e = by (nat_lt limit (length text)) refl e
         omega (arith, ltb-false limit (length text) less, ap length same)
 
 -- there is a file for each request
-as_many : (t : Held) (folder : List ℕ) (requests targets : List (List ℕ)) → files_from t folder requests ≡ Some targets → length targets ≡ length requests
+as_many : (t : FileTree) (folder : List ℕ) (requests targets : List (List ℕ)) → files_from t folder requests ≡ Some targets → length targets ≡ length requests
 as_many t folder [] targets e = sym (ap length (same_Some [] targets e))
 as_many t folder (request ∷ requests) targets e =
     option_and_then_some (λ file. option_map (λ files. file ∷ files) (files_from t folder requests)) (file_from t folder request) targets e
@@ -60,11 +61,11 @@ place_within test (path ∷ known) h = by (place_within test known) (test path) 
         let before : position_or_len test known < length known = rest (sym (ap (λ b. b || list_any test known) e) ∙ h) in
         subst (λ n. n < length (path ∷ known)) (sym (ap (λ b. cond (not b) (1 + position_or_len test known) 0) e)) (omega arith)
 
-module _ (t : Held) (graph : Graph) (row : Row) (body : Body) (followed : IsFollowed t (map (λ row. row.label) graph.rows) row body) where
+module _ (t : FileTree) (graph : Graph) (row : Row) (body : Body) (followed : IsFollowed t (map (λ row. row.label) graph.rows) row body) where
   row_fits : RowFits graph row
   row_fits = record {
     facts = fitting followed.said row.facts followed.facts
-        (record { bytes = followed.bytes; few = few_read (t row.label) 4194304 followed.bytes followed.is.read.source.read; text = followed.is.read.text });
+        (record { bytes = followed.bytes; few = few_read (t row.label) MAX_FILE_LEN followed.bytes followed.is.read.source.read; text = followed.is.read.text });
     each = ap length followed.leads ∙ length-map followed.targets (number_in (map (λ row. row.label) graph.rows))
         ∙ as_many t (folder_of row.label) followed.said.requests followed.targets followed.is.leads
         ∙ sym (length-map followed.said.requests _) ∙ sym (ap (λ facts. length facts.requests) followed.facts);
@@ -74,7 +75,7 @@ module _ (t : Held) (graph : Graph) (row : Row) (body : Body) (followed : IsFoll
         (λ path h. omega (arith, place_within (bytes_eq path) (map (λ row. row.label) graph.rows) h, length-map graph.rows (λ (row : Row). row.label))) followed.targets followed.are_known));
   }
 
-module _ (t : Held) (graph : Graph) (bodies : List Body) (asks : List (List ℕ)) (has : HasModules t graph bodies asks) where
+module _ (t : FileTree) (graph : Graph) (bodies : List Body) (asks : List (List ℕ)) (has : HasModules t graph bodies asks) where
   -- no label stands twice
   labels_apart : (labels : List (List ℕ)) → labels ≡ map (λ row. row.label) graph.rows → (i j : ℕ) (d : List ℕ) → i < j → j < length labels
       → bytes_eq (get_or labels i d) (get_or labels j d) ≡ false

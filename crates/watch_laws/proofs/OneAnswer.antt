@@ -13,7 +13,7 @@ use Rattle.emit_body.specs.declared.body.Body.{Body}
 use Rattle.module_graph.proofs.Sights.{at_number, distinct}
 use Rattle.module_graph.specs.Building.{Building, so_far}
 use Rattle.module_graph.specs.Known.{with_paths, number_in}
-use Rattle.pk_base.specs.Calls.{Held}
+use Rattle.pk_base.specs.FileTree.{FileTree}
 use Rattle.pk_types.specs.declared.graph.Graph.{Graph}
 use Rattle.pk_types.specs.declared.graph.Row.{Row}
 use Rattle.watch_core.proofs.WalkPaths.{all_with}
@@ -24,7 +24,7 @@ use Rattle.pk_base.specs.declared.outside.Read.TheVariants.{Absent}
 use Rattle.module_graph.specs.ModuleGraph.{labels_of}
 use Rattle.watch_core.specs.Trees.{seen, is_there}
 use Rattle.watch_core.specs.Builds.{pack_json, index_js, HasModules, HasFirstFault, settings, entry, of_module, asks_of, Finds}
-use Rattle.watch_core.specs.declared.walk.Found.{Found}
+use Rattle.watch_core.specs.declared.walk.FoundModules.{FoundModules}
 use Rattle.watch_core.specs.declared.faults.BuildFault.{BuildFault}
 use Rattle.watch_laws.proofs.OneNumbering.{one_place}
 use Rattle.watch_laws.proofs.OneModules.{one_fault, no_fault}
@@ -44,10 +44,10 @@ no_more_than paths known d all = length-le_from_is_member nat_list_eq_equiv path
 graph_made : List Row → List ℕ → Graph
 graph_made rows entries = record { rows = rows; entries = entries }
 
-found_made : Graph → List Body → Found
+found_made : Graph → List Body → FoundModules
 found_made graph bodies = record { graph = graph; bodies = bodies }
 
-module _ (t : Held) (start : List ℕ) where
+module _ (t : FileTree) (start : List ℕ) where
   distinct_known : (building : Building) (bodies : List Body) → AreFollowed t start building bodies → IsDistinct bytes_eq building.known
   distinct_known building bodies a = IsDistinct-from_apart bytes_eq building.known
       (λ i j d h l. by i j d h l (bytes_eq (get_or building.known i d) (get_or building.known j d)) refl)
@@ -132,15 +132,15 @@ module _ (t : Held) (start : List ℕ) where
       let wanting : length b.building.rows < length b.building.known = slice_get_within b.building.known (length b.building.rows) b.path b.wanted in
       no_stop left b.building bodies b.bodies a.followed b.followed (omega arith) b.path b.wanted fault b.asked b.fault_is
 
-absent : (t : Held) (path : List ℕ) → seen t path ≡ Absent → IsTrue (is_there (seen t path)) → ⊥
+absent : (t : FileTree) (path : List ℕ) → seen t path ≡ Absent → IsTrue (is_there (seen t path)) → ⊥
 absent t path e h = let there : IsTrue (is_there Absent) = subst (λ r. IsTrue (is_there r)) e h in true≢false (sym there)
 
-no_first : (t : Held) (graph : Graph) (bodies : List Body) (asks looked : List (List ℕ)) (fault : BuildFault) → HasModules t graph bodies asks → HasFirstFault t fault looked → ⊥
+no_first : (t : FileTree) (graph : Graph) (bodies : List Body) (asks looked : List (List ℕ)) (fault : BuildFault) → HasModules t graph bodies asks → HasFirstFault t fault looked → ⊥
 no_first t graph bodies asks looked fault a (settings h) = absent t pack_json a.entry.settings h
 no_first t graph bodies asks looked fault a (entry e f) = absent t index_js f a.entry.entry
 no_first t graph bodies asks looked fault a (of_module first more e s) = no_stop_in t index_js graph bodies a.looked more first a.modules s
 
-one_first : (t : Held) (fault other : BuildFault) (looked more : List (List ℕ)) → HasFirstFault t fault looked → HasFirstFault t other more → (fault ≡ other) × (looked ≡ more)
+one_first : (t : FileTree) (fault other : BuildFault) (looked more : List (List ℕ)) → HasFirstFault t fault looked → HasFirstFault t other more → (fault ≡ other) × (looked ≡ more)
 one_first t fault other looked more (settings h) (settings k) = (refl, refl)
 one_first t fault other looked more (settings h) (entry e f) = absurd (absent t pack_json e h)
 one_first t fault other looked more (settings h) (of_module g l e s) = absurd (absent t pack_json e.settings h)
@@ -153,7 +153,7 @@ one_first t fault other looked more (of_module g l h s) (of_module p q k r) =
     let one = one_stop t index_js g p l q s r in
     (one.0, ap (λ a. pack_json ∷ index_js ∷ a) one.1)
 
-pub one_answer : (t : Held) (a b : List (List ℕ)) (x y : Result Found BuildFault) → Finds t a x → Finds t b y → (x ≡ y) × (a ≡ b)
+pub one_answer : (t : FileTree) (a b : List (List ℕ)) (x y : Result FoundModules BuildFault) → Finds t a x → Finds t b y → (x ≡ y) × (a ≡ b)
 unfolding found_made
 one_answer t a b (Ok found) (Ok other) h k =
     let one = one_modules t index_js found.graph other.graph found.bodies other.bodies h.looked k.looked h.modules k.modules in (

@@ -1,11 +1,12 @@
 -- A path of a tree has one module alone, and one first fault.
 use Rattle.std.proofs.Common.{◌≡◌, ℕ, ◌+◌, ◌<◌, ◌≤◌, List, None, Some, length, refl, sym, ap, subst, ◌∙◌, arith}
 use Rattle.std.proofs.lemmas.Option.{same_Some, none-some}
+use Rattle.pk_types.specs.declared.limits.TheConstants.{MAX_FILE_LEN, MAX_MODULES, MAX_SOURCE_BYTES}
 use Rattle.bare_modules.proofs.Modules.{functional}
 use Rattle.bare_modules.specs.Meaning.{IsModuleText}
 use Rattle.bare_modules.specs.declared.read.ModuleText.{ModuleText}
 use Rattle.module_graph.specs.Known.{with_paths}
-use Rattle.pk_base.specs.Calls.{Held}
+use Rattle.pk_base.specs.FileTree.{FileTree}
 use Rattle.pk_base.specs.Paths.{folder_of}
 use Rattle.pk_base.specs.declared.outside.Read.TheVariants.{Bytes, Longer}
 use Rattle.watch_core.specs.Manifests.{manifest_paths}
@@ -15,7 +16,7 @@ use Rattle.watch_core.specs.Trees.{seen, first_there}
 use Rattle.watch_core.specs.declared.faults.BuildFault.{BuildFault}
 use Rattle.watch_core.specs.declared.faults.BuildFault.TheVariants.{NotBuilt}
 
-module _ (t : Held) (path : List ℕ) where
+module _ (t : FileTree) (path : List ℕ) where
   one_bytes : (a b : List ℕ) → seen t path ≡ Bytes a → seen t path ≡ Bytes b → a ≡ b
   one_bytes a b e f = let both : Bytes a ≡ Bytes b = sym e ∙ f in cc
 
@@ -51,11 +52,11 @@ module _ (t : Held) (path : List ℕ) where
       none-some targets (sym never ∙ ap (λ s. files_from t (folder_of path) s.requests) (one_text bytes other said more r m.read) ∙ m.leads)
 
   module _ (before : ℕ) where
-    large_fits : 268435456 < before + size_of (seen t path) → before + 4194304 ≤ 268435456 → seen t path ≡ Longer → ⊥
-    large_fits h l e = let over : 268435456 < before + 4194304 = subst (λ r. 268435456 < before + size_of r) e h in omega arith
+    large_fits : MAX_SOURCE_BYTES < before + size_of (seen t path) → before + MAX_FILE_LEN ≤ MAX_SOURCE_BYTES → seen t path ≡ Longer → ⊥
+    large_fits h l e = let over : MAX_SOURCE_BYTES < before + MAX_FILE_LEN = subst (λ r. MAX_SOURCE_BYTES < before + size_of r) e h in omega arith
 
-    bytes_fit : (bytes : List ℕ) → 268435456 < before + size_of (seen t path) → before + length bytes ≤ 268435456 → seen t path ≡ Bytes bytes → ⊥
-    bytes_fit bytes h l e = let over : 268435456 < before + length bytes = subst (λ r. 268435456 < before + size_of r) e h in omega arith
+    bytes_fit : (bytes : List ℕ) → MAX_SOURCE_BYTES < before + size_of (seen t path) → before + length bytes ≤ MAX_SOURCE_BYTES → seen t path ≡ Bytes bytes → ⊥
+    bytes_fit bytes h l e = let over : MAX_SOURCE_BYTES < before + length bytes = subst (λ r. MAX_SOURCE_BYTES < before + size_of r) e h in omega arith
 
     module _ (known : List (List ℕ)) where
       -- one fault alone
@@ -98,7 +99,7 @@ module _ (t : Held) (path : List ℕ) where
       one_fault fault other asked more (modules bytes_a said_a targets_a h_a m_a n_a) (modules bytes_b said_b targets_b h_b m_b n_b) = let said : said_a ≡ said_b = one_text bytes_a bytes_b said_a said_b m_a.read m_b.read in (refl, ap (λ s. module_asks t path s.requests) said)
 
       -- and none where it has a module that is within the limits
-      pub no_fault : (bytes : List ℕ) (said : ModuleText) (targets : List (List ℕ)) → IsModule t path bytes said targets → before + length bytes ≤ 268435456 → length (with_paths known targets) ≤ 16384
+      pub no_fault : (bytes : List ℕ) (said : ModuleText) (targets : List (List ℕ)) → IsModule t path bytes said targets → before + length bytes ≤ MAX_SOURCE_BYTES → length (with_paths known targets) ≤ MAX_MODULES
           → (fault : BuildFault) (asked : List (List ℕ)) → HasFault t before known path fault asked → ⊥
       no_fault bytes said targets is fits few fault asked (source_bytes h_a) = bytes_fit bytes h_a fits is.read.source.read
       no_fault bytes said targets is fits few fault asked (too_large h_a e_a) = not_large bytes e_a is.read.source.read
@@ -107,5 +108,5 @@ module _ (t : Held) (path : List ℕ) where
       no_fault bytes said targets is fits few fault asked (request bytes_a said_a h_a r_a n_a) = no_lead bytes_a bytes said_a said targets r_a n_a is
       no_fault bytes said targets is fits few fault asked (modules bytes_a said_a targets_a h_a m_a n_a) =
           let same : targets_a ≡ targets = (one_module bytes_a bytes said_a said targets_a targets m_a is).2 in
-          let over : 16384 < length (with_paths known targets) = subst (λ l. 16384 < length (with_paths known l)) same n_a in
+          let over : MAX_MODULES < length (with_paths known targets) = subst (λ l. MAX_MODULES < length (with_paths known l)) same n_a in
           omega arith

@@ -9,7 +9,7 @@ use Rattle.std.proofs.lemmas.Option.{same_Some, none-some, slice_get-map, slice_
 use Rattle.emit_body.specs.declared.body.Body.{Body}
 use Rattle.module_graph.specs.Building.{Building, so_far, leaf_of}
 use Rattle.module_graph.specs.Known.{number_in, numbers_in}
-use Rattle.pk_base.specs.Calls.{Held}
+use Rattle.pk_base.specs.FileTree.{FileTree}
 use Rattle.pk_types.specs.declared.facts.Facts.{Facts}
 use Rattle.pk_types.specs.declared.graph.Row.{Row}
 use Rattle.bare_modules.specs.declared.read.ModuleText.{ModuleText}
@@ -74,16 +74,16 @@ leaf_ends (row ∷ rows) paths (suc m) i n e = let below : m < length rows = lea
 -- ---- a walk numbers the modules of the tree
 
 -- the module at a path leads to these files
-abbrev pub LeadsIn : Held → List ℕ → List (List ℕ) → Type 0
+abbrev pub LeadsIn : FileTree → List ℕ → List (List ℕ) → Type 0
 LeadsIn t path targets = (bytes : List ℕ) × (said : ModuleText) × IsModule t path bytes said targets
 
-pub leads_one : (t : Held) (path : List ℕ) (xs ys : List (List ℕ)) → LeadsIn t path xs → LeadsIn t path ys → xs ≡ ys
+pub leads_one : (t : FileTree) (path : List ℕ) (xs ys : List (List ℕ)) → LeadsIn t path xs → LeadsIn t path ys → xs ≡ ys
 leads_one t path xs ys a b = (one_module t path a.0 b.0 a.1 b.1 xs ys a.2 b.2).2
 
 first_of : (known : List (List ℕ)) (entry : List ℕ) → take 1 known ≡ entry ∷ [] → slice_get known 0 ≡ Some entry
 first_of known entry e = sym (get_take known 1 0 (omega arith)) ∙ ap (λ l. slice_get l 0) e
 
-module _ (t : Held) (entry : List ℕ) (building : Building) (bodies : List Body) (followed : AreFollowed t entry building bodies) where
+module _ (t : FileTree) (entry : List ℕ) (building : Building) (bodies : List Body) (followed : AreFollowed t entry building bodies) where
   abbrev label_of : Row → List ℕ
   label_of row = row.label
 
@@ -142,7 +142,7 @@ row_made : List ℕ → Facts → List ℕ → Bool → ℕ → Row
 row_made label facts targets flagged size = record { label = label; facts = facts; targets = targets; flagged = flagged; size = size }
 
 -- a row and a body of one path are the same in both
-pub one_row : (t : Held) (known others : List (List ℕ)) (row other : Row) (body more : Body) → ((path : List ℕ) → IsKnown known path → IsKnown others path → number_in known path ≡ number_in others path)
+pub one_row : (t : FileTree) (known others : List (List ℕ)) (row other : Row) (body more : Body) → ((path : List ℕ) → IsKnown known path → IsKnown others path → number_in known path ≡ number_in others path)
     → row.label ≡ other.label → IsFollowed t known row body → IsFollowed t others other more → (row ≡ other) × (body ≡ more)
 unfolding row_made
 one_row t known others row other body more one label a b =
@@ -160,7 +160,7 @@ one_row t known others row other body more one label a b =
       a.body_is ∙ ap (λ (s : ModuleText). record { text = s.body; pieces = [] }) m.1 ∙ sym b.body_is,
     )
 
-module _ (t : Held) (entry : List ℕ) (left right : Building) (bodies others : List Body) (a : AreFollowed t entry left bodies) (b : AreFollowed t entry right others) where
+module _ (t : FileTree) (entry : List ℕ) (left right : Building) (bodies others : List Body) (a : AreFollowed t entry left bodies) (b : AreFollowed t entry right others) where
   abbrev one : (path : List ℕ) → IsKnown left.known path → IsKnown right.known path → number_in left.known path ≡ number_in right.known path
   one = same_number (LeadsIn t) entry (leads_one t) (so_far left) (so_far right) left.known right.known (length left.rows) (length right.rows) (numbered t entry left bodies a) (numbered t entry right others b)
 

@@ -4,7 +4,7 @@ use Rattle.watch_core.specs.Builds.{FindsBehind}
 use Rattle.watch_core.specs.Walks.{IsWritable}
 use Rattle.pack_cli.specs.Output.{built_lines}
 use Rattle.pack_cli.specs.Round.{HoldsOutput, HasLostPut}
-use Rattle.pack_cli.proofs.Builds.{is_bundle, built, unwritten, no_memory_asks, no_memory_writes}
+use Rattle.pack_cli.proofs.Builds.{is_bundle, built, unwritten, no_memory_reads, no_memory_writes}
 use Rattle.pack_cli.proofs.rounds.round.Goals as goal
 
 pub returns-in-Ok-put_files-clause-rounds : goal.returns-in-Ok-put_files-clause-rounds
@@ -22,24 +22,22 @@ returns-clause-rounds g c =
     (λ told. subst (FindsBehind (g.F.Files.means c.args.files.now).tree (g.F.Files.means c.args.files.now).asks (g.F.Files.means c.find_modules.new.files).asks) c.in-Ok.is (c.in_ok-found.ensures.value told))
     (subst (λ files. HasLostPut files (g.O.Store.means c.args.out.now) (g.O.Store.means c.put_files.new.out)) c.as_slice-2.ensures.value c.in-Err-put_files.ensures.lost)
 
-pub returns-in_err-output-clause-asks : goal.returns-in_err-output-clause-asks
-returns-in_err-output-clause-asks g c =
+pub returns-in_err-output-clause-keeps : goal.returns-in_err-output-clause-keeps
+returns-in_err-output-clause-keeps g c =
     let fault = err_from_is_err_and c.from_residual-in_err-output.result c.from_residual-in_err-output.ensures.1 in
     let found = c.in_ok-found.ensures in
-    no_memory_asks c.from_residual-in_err-output.result fault.0 (g.F.Files.means c.args.files.now) (g.F.Files.means c.find_modules.new.files) fault.1 fault.2
-    found.told found.tree found.coming found.asks found.counts
+    no_memory_reads c.from_residual-in_err-output.result fault.0 (g.F.Files.means c.args.files.now) (g.F.Files.means c.find_modules.new.files) fault.1 fault.2 found.keeps
 
 pub returns-in_err-output-clause-writes : goal.returns-in_err-output-clause-writes
 returns-in_err-output-clause-writes g c =
     let fault = err_from_is_err_and c.from_residual-in_err-output.result c.from_residual-in_err-output.ensures.1 in
     no_memory_writes c.from_residual-in_err-output.result fault.0 (g.O.Store.means c.args.out.now).faults fault.1 fault.2
 
-pub returns-in_err-lines-clause-asks : goal.returns-in_err-lines-clause-asks
-returns-in_err-lines-clause-asks g c =
+pub returns-in_err-lines-clause-keeps : goal.returns-in_err-lines-clause-keeps
+returns-in_err-lines-clause-keeps g c =
     let fault = err_from_is_err_and c.from_residual-in_err-lines.result c.from_residual-in_err-lines.ensures.1 in
     let found = c.in_ok-found.ensures in
-    no_memory_asks c.from_residual-in_err-lines.result fault.0 (g.F.Files.means c.args.files.now) (g.F.Files.means c.find_modules.new.files) fault.1 fault.2
-    found.told found.tree found.coming found.asks found.counts
+    no_memory_reads c.from_residual-in_err-lines.result fault.0 (g.F.Files.means c.args.files.now) (g.F.Files.means c.find_modules.new.files) fault.1 fault.2 found.keeps
 
 pub returns-in_err-lines-clause-writes : goal.returns-in_err-lines-clause-writes
 returns-in_err-lines-clause-writes g c =
