@@ -1,4 +1,7 @@
-//! Shows the real folder and the standard streams once, with a count of steps.
+//! Shows the real folder and the standard streams once.
+//!
+//! It reads paths of its folder `data` up to limits, puts and removes files of the store, and copies the standard input
+//! to the standard output. What it must print is in `stdout`.
 #![tactic(auto)]
 
 use pk_base::{

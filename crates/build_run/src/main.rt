@@ -1,6 +1,8 @@
 //! Builds the trees that the input describes, and prints what each build leaves: the exit status, the lines, the asks,
-//! the calls of the store, and of the bundle what stands behind the runtime text. A block of the input is a tree. Each of
-//! its lines is a path and a text, in which `|` stands for the end of a line.
+//! the calls of the store, and of the bundle what stands behind the runtime text.
+//!
+//! A block of the input is a tree. Each of its lines is a path and a text, in which `|` stands for the end of a line.
+//! The builds run over files, a store and streams in memory (`cli_tests`). What must be printed is in `stdout`.
 #![tactic(auto)]
 
 use cli_tests::{World, transcript};

@@ -1,4 +1,9 @@
-//! Laws of the definitions on chunks, scopes, ids and names.
+//! Laws of the definitions on chunks, scopes, ids and names, and small graphs that were worked out by hand.
+//!
+//! Nothing here runs. Each law is the contract of a function that does nothing, over the definitions of `pk_types`: of
+//! splitting (`SplitStates` to `ChunkClauses`), of scopes (`HoistSets`, `HoistItems`, `HoistPaths`), of ids
+//! (`ModuleIds`, `HashedIds`) and of names (`GivenNames`). It stands apart so that `pk_types` is checked no longer for
+//! it; most of the proofs are there.
 #![tactic(auto)]
 
 mod chunk_laws;

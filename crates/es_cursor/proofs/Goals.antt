@@ -25,5 +25,5 @@ stands_at_each_goal text at goal token first stands is lies slash brace other =
     let start : ℕ = gap_end text at in
     let same : first ≡ byte (drop start text) 0 = is ∙ ap (λ z. byte (drop z text) 0) lies in
     ap (token_from start (has_line_terminator (slice_range text at start)) (drop start text))
-        (lexemes_alike (drop start text) other goal (subst (λ b. (b == 0x2F) ≡ false) same (differs first slash)) (subst (λ b. (b == 0x7D) ≡ false) same (no_brace first brace)))
-        ∙ stands
+    (lexemes_alike (drop start text) other goal (subst (λ b. (b == 0x2F) ≡ false) same (differs first slash)) (subst (λ b. (b == 0x7D) ≡ false) same (no_brace first brace)))
+    ∙ stands

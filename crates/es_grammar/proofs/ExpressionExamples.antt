@@ -764,8 +764,12 @@ paired_parses = record {
       refl)) (Chain.more _ _ (ChainedMarkAt.mark (mark 3 4) (marked paired_3_operator refl refl)) (Chain.more _ _ (ChainedMarkAt.mark (mark 4 5)
       (marked paired_4_operator refl refl)) Chain.none)) refl))) (marked paired_6_operator refl refl) (assign_up 253
       (AssignAt.cond _ (CondAt.test _ (BinaryAt.binary _ _ (ListedAt.operand _ (OperandAt.lhs _ (LHSAt.base _ _ (BaseAt.primary _
-      (PrimaryAt.number (number 8 9) (kinded paired_8 refl))) Chain.none refl))) JoinedAt.none (fits_lhs _) tt refl)))))))) (record { next =
-      (mark 9 10); read = paired_9_operator; closed = refl }) (SemiAt.written (mark 9 10) (marked paired_9_operator refl refl)))))
+      (PrimaryAt.number (number 8 9) (kinded paired_8 refl))) Chain.none refl))) JoinedAt.none (fits_lhs _) tt refl)))))))) (record {
+        next =
+            (mark 9 10);
+        read = paired_9_operator;
+        closed = refl;
+      }) (SemiAt.written (mark 9 10) (marked paired_9_operator refl refl)))))
       (closed_item (end_at 10) paired_10 refl refl refl refl))) Chain.none;
   end = end_at 10;
   is_end = kinded paired_10 refl;

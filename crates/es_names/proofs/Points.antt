@@ -66,7 +66,7 @@ digit_is_small c e = ltb-true _ _ (first_of _ _ e).1
 
 digits_of : (a b c d : ℕ)
     → (cond (is_digit 16 a && is_digit 16 b && is_digit 16 c && is_digit 16 d)
-        (digit_value a * 4096 + digit_value b * 256 + digit_value c * 16 + digit_value d, 6) no_character).0 < 0x110000
+    (digit_value a * 4096 + digit_value b * 256 + digit_value c * 16 + digit_value d, 6) no_character).0 < 0x110000
 digits_of a b c d = guarded (is_digit 16 a && is_digit 16 b && is_digit 16 c && is_digit 16 d)
     (digit_value a * 4096 + digit_value b * 256 + digit_value c * 16 + digit_value d, 6) (λ e.
     let f : (is_digit 16 a && is_digit 16 b && is_digit 16 c ≡ true) × (is_digit 16 d ≡ true) = first_of _ _ e in

@@ -1,5 +1,11 @@
-//! Makes programs item by item, and lets them go. Whoever owns a tree's types by itself proves the drops of all of them,
-//! which takes long; so they are proved here, once.
+//! Makes programs item by item, and lets them go. Whoever owns a tree's types by itself proves the drops of all of
+//! them, which takes long; so they are proved here, once.
+//!
+//! A program begins `empty`. `import_item` and `export_item` make items of declarations, `add` puts an item behind the
+//! others, and `let_go` ends a program. Where memory runs out in `add` the item is let go, and the program is as
+//! before.
+//!
+//! No item is changed or taken out again.
 #![tactic(auto)]
 
 ghost use Rattle.std.specs.Prelude.{◌≡◌, ◌++◌, ◌∷◌, [], IfOk, OnOk, OnErr};

@@ -7,7 +7,6 @@ use Rattle.es_tree.specs.declared.tokens.TokenKind.{TokenKind}
 use Rattle.es_tree.specs.declared.tokens.TokenKind.TheVariants as kind
 use Rattle.es_tree.specs.declared.tokens.Goal.{Goal}
 use Rattle.es_tree.specs.declared.tokens.Goal.TheVariants.{Operand as AtOperand, Operator as AtOperator, Template as AtTemplate}
-use Rattle.es_tree.specs.declared.parts.Separated.{Separated}
 use Rattle.es_tree.specs.declared.parts.Argument.{Argument}
 use Rattle.es_tree.specs.declared.parts.SecondArgument.{SecondArgument}
 use Rattle.es_tree.specs.declared.parts.Piece.{Piece}
@@ -29,7 +28,6 @@ use Rattle.es_grammar.specs.Contexts.{bracketed}
 use Rattle.es_grammar.specs.Reading.{Bytes, spelled}
 use Rattle.es_grammar.specs.Expressions.{Expr, follows_super, has_plain_templates, literal_words, opens}
 use Rattle.es_reader.specs.Basics.{◌>>=◌, Reader, Ended, token, is_mark, is_one_mark, is_word, is_one_word, is_name, mark, word}
-use Rattle.es_reader.specs.declared.pieces.TurnOf.{TurnOf}
 use Rattle.es_reader.specs.declared.pieces.TurnOf.TheVariants.{Ended as ended}
 use Rattle.es_reader.specs.declared.pieces.TurnOf.TheVariants.{Last as last}
 use Rattle.es_reader.specs.declared.pieces.TurnOf.TheVariants.{More as more}

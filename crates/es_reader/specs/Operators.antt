@@ -28,7 +28,7 @@ use Rattle.es_grammar.specs.Contexts.{bracketed, in_arrow, in_concise}
 use Rattle.es_grammar.specs.Reading.{Bytes, spelled}
 use Rattle.es_grammar.specs.Semicolons.{stop, block_arrow, postfix, expression, binary_marks, assignment_marks}
 use Rattle.es_grammar.specs.Operators.{has_operator, loose_marks}
-use Rattle.es_reader.specs.Basics.{◌>>=◌, or_else, Reader, Ended, token, is_mark, is_one_mark, is_word, is_name, mark}
+use Rattle.es_reader.specs.Basics.{◌>>=◌, Ended, token, is_mark, is_one_mark, is_word, is_name, mark}
 use Rattle.es_reader.specs.declared.pieces.TurnOf.{TurnOf}
 use Rattle.es_reader.specs.declared.pieces.TurnOf.TheVariants.{Ended as ended}
 use Rattle.es_reader.specs.declared.pieces.TurnOf.TheVariants.{More as more}
@@ -41,7 +41,7 @@ use Rattle.es_reader.specs.declared.pieces.Shape.TheVariants.{Private as private
 use Rattle.es_reader.specs.declared.pieces.Shape.TheVariants.{Plain as plain}
 use Rattle.es_reader.specs.Shapes.{begins_prefixed, is_await, is_private_kind, is_sign, is_update, shape_of}
 use Rattle.es_reader.specs.Expressions.{Parts, lhs_of, read_parts}
-use Rattle.es_reader.specs.Targets.{Bare, bare_of, bare_target, begins_pattern, read_paren_target, read_simple_target}
+use Rattle.es_reader.specs.Targets.{bare_of, bare_target, begins_pattern, read_paren_target, read_simple_target}
 
 -- what was read decides how it goes on; where nothing was, the other way
 abbrev pub through : {A B : Type 0} → Option A → (A → Option B) → Option B → Option B

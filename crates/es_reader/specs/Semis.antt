@@ -1,12 +1,12 @@
 -- Where a semicolon may be left out, and where an expression is closed.
 use Rattle.std.specs.Prelude.{ℕ, Bool, false, ◌||◌, List, [], ◌∷◌, Option, Some, None, codes, if◌then◌else◌}
 use Rattle.es_tree.specs.declared.tokens.Token.{Token}
-use Rattle.es_tree.specs.declared.tokens.Goal.TheVariants.{Operand, Operator}
+use Rattle.es_tree.specs.declared.tokens.Goal.TheVariants.{Operator}
 use Rattle.es_grammar.specs.declared.places.Ending.{Ending}
 use Rattle.es_grammar.specs.declared.places.Stop.{Stop}
 use Rattle.es_grammar.specs.Reading.{Bytes, spelled}
 use Rattle.es_grammar.specs.Semicolons.{closes, is_fresh}
-use Rattle.es_reader.specs.Basics.{◌>>=◌, Reader, is_mark, mark, token}
+use Rattle.es_reader.specs.Basics.{◌>>=◌, Reader, is_mark, token}
 
 -- the token that was looked for is there, and is so
 abbrev pub holds : (Token → Bool) → Option Token → Bool

@@ -3,7 +3,7 @@ use Rattle.es_reader.specs.declared.pieces.Shape.{Shape}
 use Rattle.es_reader.specs.declared.pieces.Shape.TheVariants.{Signed as signed}
 use Rattle.es_reader.specs.declared.pieces.Shape.TheVariants.{Private as private}
 use Rattle.es_reader.specs.declared.pieces.Shape.TheVariants.{Plain as plain}
-use Rattle.std.specs.Prelude.{Bool, true, false, ◌&&◌, ◌||◌, List, [], ◌∷◌, Option, Some, None, codes, if◌then◌else◌}
+use Rattle.std.specs.Prelude.{Bool, true, false, ◌&&◌, ◌||◌, codes, if◌then◌else◌}
 use Rattle.es_tree.specs.declared.tokens.Token.{Token}
 use Rattle.es_tree.specs.declared.tokens.TokenKind.{TokenKind}
 use Rattle.es_tree.specs.declared.tokens.TokenKind.TheVariants as kind

@@ -1,5 +1,5 @@
 -- That whatever is read stands in the text by the grammar.
-use Rattle.std.specs.Prelude.{◌≡◌, ℕ, Option, Some}
+use Rattle.std.specs.Prelude.{◌≡◌, ℕ, Some}
 use Rattle.es_tree.specs.declared.tokens.Token.{Token}
 use Rattle.es_tree.specs.declared.tokens.Goal.TheVariants.{Operand}
 use Rattle.es_tree.specs.declared.cycle.Operand.{Operand as OperandTree}

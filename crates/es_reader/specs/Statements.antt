@@ -93,9 +93,10 @@ read_var text r c p = word text Operand (codes "var") p >>= var_behind text r c
 abbrev pub Condition : Type 0
 Condition = ConditionOf Expr
 
-unfoldable pub read_condition : Bytes → Readers → Context → Reader Condition
+-- it ends where its `)` does
+unfoldable pub read_condition : Bytes → Readers → Context → ℕ → Option Condition
 read_condition text r c p = mark text Operand (codes "(") p >>= λ left. read_closed_expr text r (bracketed c) left.end >>= λ x.
-    mark text Operator (codes ")") x.1 >>= λ right. Some (record { left = left; test = x.0; right = right }, right.end)
+    mark text Operator (codes ")") x.1 >>= λ right. Some (record { left = left; test = x.0; right = right })
 
 -- For, from behind its head or its declarations on
 
@@ -317,19 +318,19 @@ unfoldable pub var_stmt : Bytes → Readers → Context → Token → Option (St
 var_stmt text r c t = var_behind text r (bracketed c) t >>= λ x. Some (stmt_v.Var x.0, x.1)
 
 unfoldable pub if_stmt : Bytes → Readers → Context → Token → Option (Stmt × ℕ)
-if_stmt text r c t = read_condition text r c t.end >>= λ x. r.stmt c x.1 >>= λ body. read_else text r c body.1 >>= λ otherwise.
-    Some (stmt_v.If t x.0.left x.0.test x.0.right body.0 otherwise.0, otherwise.1)
+if_stmt text r c t = read_condition text r c t.end >>= λ x. r.stmt c x.right.end >>= λ body. read_else text r c body.1 >>= λ otherwise.
+    Some (stmt_v.If t x.left x.test x.right body.0 otherwise.0, otherwise.1)
 
 unfoldable pub for_stmt : Bytes → Readers → Context → Token → Option (Stmt × ℕ)
 for_stmt text r c t = for_behind text r c t >>= λ x. Some (stmt_v.For x.0, x.1)
 
 unfoldable pub while_stmt : Bytes → Readers → Context → Token → Option (Stmt × ℕ)
-while_stmt text r c t = read_condition text r c t.end >>= λ x. r.stmt c x.1 >>= λ body.
-    Some (stmt_v.While t x.0.left x.0.test x.0.right body.0, body.1)
+while_stmt text r c t = read_condition text r c t.end >>= λ x. r.stmt c x.right.end >>= λ body.
+    Some (stmt_v.While t x.left x.test x.right body.0, body.1)
 
 unfoldable pub do_stmt : Bytes → Readers → Context → Token → Option (Stmt × ℕ)
 do_stmt text r c t = r.stmt c t.end >>= λ body. word text Operand (codes "while") body.1 >>= λ u. read_condition text r c u.end >>= λ x.
-    read_free_semi text x.1 >>= λ s. Some (stmt_v.Do t body.0 u x.0.left x.0.test x.0.right s.0, s.1)
+    read_free_semi text x.right.end >>= λ s. Some (stmt_v.Do t body.0 u x.left x.test x.right s.0, s.1)
 
 unfoldable pub continue_stmt : Bytes → Context → Token → Option (Stmt × ℕ)
 continue_stmt text c t = read_label text c t.end >>= λ label. read_semi text (stop label.1 other) >>= λ s. Some (stmt_v.Continue t label.0 s.0, s.1)
@@ -338,13 +339,13 @@ unfoldable pub break_stmt : Bytes → Context → Token → Option (Stmt × ℕ)
 break_stmt text c t = read_label text c t.end >>= λ label. read_semi text (stop label.1 other) >>= λ s. Some (stmt_v.Break t label.0 s.0, s.1)
 
 unfoldable pub with_stmt : Bytes → Readers → Context → Token → Option (Stmt × ℕ)
-with_stmt text r c t = read_condition text r c t.end >>= λ x. r.stmt c x.1 >>= λ body.
-    Some (stmt_v.With t x.0.left x.0.test x.0.right body.0, body.1)
+with_stmt text r c t = read_condition text r c t.end >>= λ x. r.stmt c x.right.end >>= λ body.
+    Some (stmt_v.With t x.left x.test x.right body.0, body.1)
 
 unfoldable pub switch_stmt : Bytes → Readers → Context → Token → Option (Stmt × ℕ)
-switch_stmt text r c t = read_condition text r c t.end >>= λ x. mark text Operand (codes "{") x.1 >>= λ brace.
+switch_stmt text r c t = read_condition text r c t.end >>= λ x. mark text Operand (codes "{") x.right.end >>= λ brace.
     read_cases text r c brace.end >>= λ cases. mark text Operand (codes "}") cases.1 >>= λ last.
-    Some (stmt_v.Switch t x.0.left x.0.test x.0.right brace cases.0 last, last.end)
+    Some (stmt_v.Switch t x.left x.test x.right brace cases.0 last, last.end)
 
 unfoldable pub throw_stmt : Bytes → Readers → Context → Token → Option (Stmt × ℕ)
 throw_stmt text r c t = read_expr_on_line text r c t.end >>= λ x. read_semi text x.1 >>= λ s. Some (stmt_v.Throw t x.0 s.0, s.1)

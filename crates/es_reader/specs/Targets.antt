@@ -5,7 +5,7 @@ use Rattle.es_reader.specs.declared.pieces.InsideOf.TheVariants.{Found as found}
 use Rattle.es_reader.specs.declared.pieces.BareOf.{BareOf}
 use Rattle.es_reader.specs.declared.pieces.BareOf.TheVariants.{Name as name}
 use Rattle.es_reader.specs.declared.pieces.BareOf.TheVariants.{Member as member}
-use Rattle.std.specs.Prelude.{ℕ, zero, suc, Bool, true, false, not, ◌&&◌, ◌||◌, List, [], ◌∷◌, ◌++◌, length, Option, Some, None, codes, if◌then◌else◌}
+use Rattle.std.specs.Prelude.{ℕ, zero, suc, Bool, false, not, ◌&&◌, ◌||◌, List, [], ◌∷◌, ◌++◌, length, Option, Some, None, codes, if◌then◌else◌}
 use Rattle.es_tree.specs.declared.tokens.Token.{Token}
 use Rattle.es_tree.specs.declared.tokens.Goal.TheVariants.{Operand, Operator}
 use Rattle.es_tree.specs.declared.parts.Separated.{Separated}

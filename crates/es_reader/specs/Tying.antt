@@ -7,9 +7,10 @@ use Rattle.es_grammar.specs.declared.TheConstants.{MAX_NEST}
 use Rattle.es_grammar.specs.declared.places.Context.{Context}
 use Rattle.es_grammar.specs.Reading.{Bytes}
 use Rattle.es_grammar.specs.Expressions.{Expr}
-use Rattle.es_grammar.specs.Parses.{DefaultTo, ExpressionTo, ItemTo, Parses}
+use Rattle.es_grammar.specs.Parses.{DefaultTo, ExpressionTo, ItemTo, Parses, rules_to}
 use Rattle.es_reader.specs.Basics.{◌>>=◌, Reader}
 use Rattle.es_reader.specs.Readers.{Readers, no_readers}
+use Rattle.es_reader.specs.Soundness.{AreSound}
 use Rattle.es_reader.specs.Functions.{read_bind_pattern, read_closed_item}
 use Rattle.es_reader.specs.Expressions.{read_closed_expr, read_lhs, read_new}
 use Rattle.es_reader.specs.Targets.{read_target_pattern}
@@ -52,7 +53,10 @@ unfoldable pub read_program : Bytes → ProgramGoal → Option Program
 read_program text goal = read_items text (readers_to text MAX_NEST) goal 0 >>= λ xs. end text xs.1 >>= λ t.
     Some (record { goal = goal; items = xs.0 })
 
--- What is read stands in the text by the grammar.
+-- What is read stands in the text by the grammar: what nests to a nest, expressions, items, what `export default` takes, and programs.
+abbrev pub ReadingLaw : Type 0
+ReadingLaw = (text : Bytes) (nest : ℕ) → AreSound text (rules_to text nest) (readers_to text nest)
+
 abbrev pub ExpressionLaw : Type 0
 ExpressionLaw = (text : Bytes) (nest : ℕ) (c : Context) (p : ℕ) (x : Expr) (q : ℕ) → expression_to text nest c p ≡ Some (x, q)
     → ExpressionTo text nest c p x q

@@ -1,6 +1,7 @@
 //! Reads rows such as `r0 a = 1`, a goal, a place and a text, and prints behind each the token that stands there.
 //!
-//! The goals are `r` for Operand, `d` for Operator and `t` for Template. In a text `|` is LF, and `~` and two digits are a byte.
+//! The goals are `r` for Operand, `d` for Operator and `t` for Template. In a text `|` is LF, and `~` and two digits
+//! are a byte. The table of cases is in `stdin`, and what must be printed in `stdout`.
 #![tactic(auto)]
 
 mod rows;

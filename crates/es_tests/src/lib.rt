@@ -1,4 +1,5 @@
-//! Tests of the reserved words. The program es_run shows the tokens.
+//! Tests of the reserved words, which stand apart so that the lexer is proved only once. The program `es_run` shows the
+//! tokens.
 #![tactic(auto)]
 
 #[cfg(test)]

@@ -1,4 +1,13 @@
 //! The tokens of ECMAScript, as ECMA-262's lexical grammar has them, and the syntax tree over them.
+//!
+//! A `Token` is a kind and where it stands in its text. The tree holds each form of each production with exactly its
+//! tokens in order: `cycle` has the types that lead back to one another, `parts` generic ones outside the cycle,
+//! `program` programs, imports and exports. Lists and boxes are those of `sqlite_items`, which contracts see as what
+//! they hold. `docs/GLOSSARY.md` has ECMA-262's names of the types.
+//!
+//! Nothing here computes. `specs` says which token stands at a place (`Lexical`), what names mean (`Names`), which
+//! words are reserved (`ReservedWords`), and which tokens a tree has in order (`Yield`). What the types allow and the
+//! grammar doesn't is left to `es_grammar`.
 #![tactic(auto)]
 
 mod cycle;

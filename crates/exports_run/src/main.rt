@@ -1,8 +1,10 @@
-//! Reads graphs of modules, and prints what exported names stand for. Blocks stand apart by an empty line. A block begins
-//! with its questions: `0.x`, or `0:x` to ask without a resolver that is kept, or `0` for all names of a module. Each other
-//! line is a module. It begins with its kind: `E`, `C` for CommonJS or `J` for JSON. Then come its exports: `x` is of a
-//! binding of its own, `x=0` of its first binding again, `x=1.y` a name of module 1, `x=1.*` its namespace, and `*1` a
-//! star. A block that is no graph is answered by `no graph`.
+//! Reads graphs of modules, and prints what exported names stand for. Blocks stand apart by an empty line. A block
+//! begins with its questions: `0.x`, or `0:x` to ask without a resolver that is kept, or `0` for all names of a module.
+//! Each other line is a module. It begins with its kind: `E`, `C` for CommonJS or `J` for JSON. Then come its exports:
+//! `x` is of a binding of its own, `x=0` of its first binding again, `x=1.y` a name of module 1, `x=1.*` its namespace,
+//! and `*1` a star. A block that is no graph is answered by `no graph`.
+//!
+//! The table of cases is in `stdin`, and what must be printed in `stdout`.
 #![tactic(auto)]
 
 mod asking;

@@ -1,4 +1,8 @@
 //! What the definitions of use and of chunk groups come to: laws, and small graphs that were worked out by hand.
+//!
+//! Nothing here runs. Each law is the contract of a function that does nothing, over the definitions of `pk_types`:
+//! `uses` has those of what is reached and used and of active edges, `groups` those of groups and of what is available
+//! in them. `docs/GROUPS.md` lists them. It stands apart so that `pk_types` is checked no longer for it.
 #![tactic(auto)]
 
 mod groups;

@@ -1,6 +1,9 @@
-//! Builds the graphs that the input describes, and prints their modules by number. A block of the input begins with
-//! its entries, and in each other line is a path and what its requests lead to, or behind a `?` paths whose numbers are
+//! Builds the graphs that the input describes, and prints their modules by number. A block of the input begins with its
+//! entries, and in each other line is a path and what its requests lead to, or behind a `?` paths whose numbers are
 //! printed. `*9` stands for nine paths.
+//!
+//! The table of cases is in `stdin`, the greatest graph and one beyond it among them, and what must be printed in
+//! `stdout`.
 #![tactic(auto)]
 
 ghost use Rattle.std.specs.Prelude.{◌≡◌, length, IfOk};

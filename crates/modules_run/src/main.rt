@@ -1,5 +1,8 @@
 //! Reads texts of modules, one a line, and prints behind each its kind, its requests and its body. In a text `|` is LF,
-//! and `~` and two digits are a byte. `*9` stands for nine imports, each of them twice, of which the requests are counted.
+//! and `~` and two digits are a byte. `*9` stands for nine imports, each of them twice, of which the requests are
+//! counted.
+//!
+//! The table of cases is in `stdin`, and what must be printed in `stdout`.
 #![tactic(auto)]
 
 mod bytes;

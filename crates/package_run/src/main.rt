@@ -1,4 +1,7 @@
 //! Answers questions about manifests: each line of the standard input is a manifest or a question about the last one.
+//!
+//! It shows what a manifest says, which files have side effects, and what keys of `exports` and `imports` lead to. The
+//! table of cases is in `stdin`, and what must be printed in `stdout`.
 #![tactic(auto)]
 
 mod bytes;

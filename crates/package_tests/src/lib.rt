@@ -1,4 +1,5 @@
-//! A test of the manifest's reader. The tables of cases stand in the crate `package_run`.
+//! A test of the manifest's reader: many names, each of them twice. The tables of cases stand in the crate
+//! `package_run`.
 #![tactic(auto)]
 
 #[cfg(test)]

@@ -1,6 +1,8 @@
 //! Plans the graphs that the input describes, and prints the plans. A block of the input begins with its entry, and in
 //! each other line is a module and what its requests lead to. Those behind `|` are of no declaration. Where the first
 //! line begins `file `, the bundle's file is printed too, from where the runtime text ends.
+//!
+//! The table of cases is in `stdin`, and what must be printed in `stdout`.
 #![tactic(auto)]
 
 mod building;

@@ -1,6 +1,7 @@
-//! Counts the tokens of the text on the standard input.
+//! Counts the tokens of the text on the standard input, by kind. It serves `bench/tokens.py`.
 //!
-//! The goal of a place is told by the token before it, which serves for texts without braces within templates.
+//! The goal of a place is told by the token before it, which serves for texts without braces within templates. A text
+//! has at most 100,000,000 bytes.
 #![tactic(auto)]
 
 ghost use Rattle.std.specs.Prelude.{◌<◌, ◌^◌, length};

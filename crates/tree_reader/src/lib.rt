@@ -1,4 +1,6 @@
 //! Reads a program that it doesn't own. It shows what a crate pays that takes `&Program`, and serves `yield_run`.
+//!
+//! `token_count` counts the tokens that `es_yield::yield_of` lists.
 #![tactic(auto)]
 
 ghost use Rattle.std.specs.Prelude.{◌≡◌, length, IfOk};

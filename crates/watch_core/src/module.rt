@@ -55,7 +55,7 @@ fn follow<F: Files>(
         → Sees (F.means files.old) sights.old t → seen t path.now ≡ read.Bytes bytes
         → ReadsModule bytes said
         → size ≡ length bytes → before + length bytes ≤ MAX_SOURCE_BYTES
-            → Visits t before path.now (keys_of sights.old) (keys_of sights.new) visited) }
+        → Visits t before path.now (keys_of sights.old) (keys_of sights.new) visited) }
     ensures looks { Looks result (F.means files.old) (F.means files.new) sights.old sights.new }
 {
     let manifests = manifest_paths(alloc, path)?;

@@ -30,5 +30,5 @@ pub fn plans_of_trees_are_plans()
     ensures only { (t : FileTree) (graph : Graph) (bodies : List Body) (asks : List (List ℕ))
         → HasModules t graph bodies asks
         → (plan : Plan) → IsPlan graph plan → (other : Plan) → IsGeneralPlan graph other
-            → other ≡ plan }
+        → other ≡ plan }
 {}

@@ -1,4 +1,6 @@
 //! Makes two programs and prints the tokens of each: how many they are, and from where to where each goes.
+//!
+//! The programs are made item by item (`samples`) and let go on each path. What must be printed is in `stdout`.
 #![tactic(auto)]
 
 mod samples;

@@ -1,0 +1,5 @@
+pub mod Calls
+pub mod Gathering
+pub mod LedGroups
+pub mod LineRows
+pub mod Grouped

@@ -1,0 +1,15 @@
+pub mod Steps
+pub mod Lists
+pub mod Semis
+pub mod Functions
+pub mod Classes
+pub mod Expressions
+pub mod Primaries
+pub mod Targets
+pub mod Shapes
+pub mod Operators
+pub mod Assignments
+pub mod Declarations
+pub mod Statements
+pub mod Modules
+pub mod Tying

@@ -1,0 +1,4 @@
+pub mod Kept
+pub mod Tried
+pub mod Giving
+pub mod Rows

@@ -1,0 +1,5 @@
+pub mod Ranges
+pub mod Marking
+pub mod FreeNumbers
+pub mod Numbering
+pub mod Together

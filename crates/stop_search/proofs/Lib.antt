@@ -1,0 +1,4 @@
+pub mod Leading
+pub mod Ways
+pub mod Waiting
+pub mod Searching
