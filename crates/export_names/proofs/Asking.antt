@@ -30,10 +30,10 @@ or_true false = refl
 self_eq : (n : ℕ) → nat_eq n n ≡ true
 self_eq n = eq-eqb n n refl
 
-same_self : (pair : Pair) → same_pair pair pair ≡ true
+pub same_self : (pair : Pair) → same_pair pair pair ≡ true
 same_self pair = ap (λ b. b && bytes_eq pair.1 pair.1) (self_eq pair.0) ∙ (bytes_decides pair.1 pair.1).1 refl
 
-same_exact : (pair other : Pair) → same_pair pair other ≡ true → pair ≡ other
+pub same_exact : (pair other : Pair) → same_pair pair other ≡ true → pair ≡ other
 same_exact pair other same = by (nat_eq pair.0 other.0) refl
   where
     by : (b : Bool) → nat_eq pair.0 other.0 ≡ b → pair ≡ other
@@ -54,7 +54,7 @@ not_true true e = absurd (true≢false (sym e))
 only : (pair other : Pair) → Contains (pair ∷ []) other → pair ≡ other
 only pair other there = ⊎_elim (λ none. absurd (omega (arith, none.1))) (λ e. e) (Contains-push_cases [] pair other there)
 
-any_from : (pairs : List Pair) (pair : Pair) → Contains pairs pair → list_any (same_pair pair) pairs ≡ true
+pub any_from : (pairs : List Pair) (pair : Pair) → Contains pairs pair → list_any (same_pair pair) pairs ≡ true
 any_from [] pair there = absurd (omega (arith, there.1))
 any_from (first ∷ pairs) pair there = ⊎_elim
     (λ one. ap (λ b. b || list_any (same_pair pair) pairs) (subst (λ p. same_pair pair p ≡ true) (sym (only first pair one)) (same_self pair)))

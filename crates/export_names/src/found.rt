@@ -3,7 +3,8 @@ ghost use Rattle.pk_types.specs.Joined.{is_same, joined};
 
 use pk_types::Found;
 
-fn is_same(left: &Found, right: &Found) -> bool
+/// Whether two stars lead to the same, so that a name stands for one thing through both.
+pub fn is_same(left: &Found, right: &Found) -> bool
     ensures { result ≡ is_same left.now right.now }
 {
     match (left, right) {

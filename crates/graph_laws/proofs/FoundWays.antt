@@ -89,7 +89,7 @@ module _ (graph : Graph) where
     by_star : (number : ℕ) (name : List ℕ) (row : Row) (star target : ℕ) → FindsOne graph number name found → IsEsRow graph number row
         → IsFoundThrough graph number row name star → slice_get row.targets star ≡ Some target → LeadsOn found target name → LeadsOn found number name
 
-  finds_there : (found : Found) (number : ℕ) (name : List ℕ) → LeadsOn found number name → FindsOne graph number name found
+  pub finds_there : (found : Found) (number : ℕ) (name : List ℕ) → LeadsOn found number name → FindsOne graph number name found
   finds_there found _ _ (LeadsOn.foreign number name kind f k n e) = f
   finds_there found _ _ (LeadsOn.own number name row binding f r o e) = f
   finds_there found _ _ (LeadsOn.space number name row request target f r o t e) = f

@@ -66,7 +66,7 @@ same_number : (a : ℕ) → nat_eq a a ≡ true
 same_number a = grind (arith, nat_tests)
 
 -- the test of two found things tells that they are the same
-same_thing : (one two : Found) → is_same one two ≡ true → one ≡ two
+pub same_thing : (one two : Found) → is_same one two ≡ true → one ≡ two
 same_thing (Binding a b) (Binding c d) e =
     let h = and_both (nat_eq a c) (nat_eq b d) e in ap (λ n. Binding n b) (to_same a c h.0) ∙ ap (λ n. Binding c n) (to_same b d h.1)
 same_thing (Namespace a) (Namespace c) e = ap Namespace (to_same a c e)
@@ -95,7 +95,7 @@ same_thing Ambiguous (Namespace c) e = absurd (true≢false (sym e))
 same_thing Ambiguous (Foreign c w) e = absurd (true≢false (sym e))
 same_thing Ambiguous Nothing e = absurd (true≢false (sym e))
 
-itself : (found : Found) → is_same found found ≡ true
+pub itself : (found : Found) → is_same found found ≡ true
 itself (Binding a b) = ap (λ t. t && nat_eq b b) (same_number a) ∙ same_number b
 itself (Namespace a) = same_number a
 itself (Foreign a v) = ap (λ t. t && bytes_eq v v) (same_number a) ∙ (bytes_eq-Decides v v).1 refl

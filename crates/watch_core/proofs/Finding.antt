@@ -1,10 +1,7 @@
 -- What was seen at the first paths of a build makes its first fault, or goes on with its modules.
-use Rattle.std.proofs.Common.{◌≡◌, ℕ, Bool, true, false, true≢false, List, [], ◌∷◌, ◌++◌, Result, Ok, Err, IsTrue, IfOk, OnOk, append-nil, arith, refl, sym, ap, subst, ◌∙◌}
-use Rattle.std.specs.List.{IsDistinct}
+use Rattle.std.proofs.Common.{◌≡◌, ℕ, Bool, true, false, true≢false, List, [], ◌∷◌, ◌++◌, Result, Ok, Err, IsTrue, IfOk, refl, sym, ap, subst, ◌∙◌}
 use Rattle.std.specs.Map.{keys_of}
-use Rattle.std.specs.Str.{bytes_eq}
 use Rattle.std.proofs.lemmas.List.Elements.{All-nil}
-use Rattle.std.proofs.lemmas.Map.Keys.{IsDistinct-from_apart}
 use Rattle.pk_base.specs.FileTree.{FileTree}
 use Rattle.pk_base.specs.Keeping.{KeepsSeen}
 use Rattle.pk_base.specs.declared.outside.ReadFail.{ReadFail}
