@@ -1,5 +1,5 @@
 //! The cursor, and the token at a place.
-ghost use Rattle.std.specs.Prelude.{◌≡◌, ◌≤◌, length, drop, Ok, Err, IfOk, IfErr, IfSome};
+ghost use Rattle.std.specs.Prelude.{◌≡◌, ◌≤◌, true, length, drop, Ok, Err, IfOk, IfErr, IfSome};
 ghost use Rattle.es_tree.specs.Lexical.{token_at};
 ghost use Rattle.es_tree.specs.Places.{LiesBehind};
 ghost use Rattle.es_tree.specs.Utf8.{byte};
@@ -7,11 +7,14 @@ ghost use Rattle.es_reader.specs.Basics as spec;
 ghost use Rattle.es_reader.specs.Basics.{Reads};
 ghost use Rattle.es_cursor.specs.Standing.{Lies, Stands};
 ghost use Rattle.es_cursor.specs.Seen.{IsSeen};
+ghost use Rattle.es_cursor.specs.Giving.{GivesWay};
 
+use crate::passed::Passed;
 use es_lexer::next_token;
 use es_reader::ParseFault;
 use es_tree::{Goal, LexFault, Token};
-use std::alloc::Global;
+use std::alloc::{AllocError, Global};
+use std::collections::BTreeMap;
 use std::marker::Model;
 
 /// A token that was looked at, with the place that it was read from and the goal.
@@ -30,17 +33,22 @@ pub struct Cursor<'a> {
     pub(crate) text: &'a [u8],
     pub(crate) alloc: Global,
     seen: Option<Seen>,
+    passed: BTreeMap<u64, Passed>,
 }
 
 impl<'a> Model for Cursor<'a> {
     ghost use Rattle.std.specs.Prelude.{List, ℕ, IfSome};
+    ghost use Rattle.std.specs.List.{All};
+    ghost use Rattle.std.specs.Map.{values_of};
     ghost use Rattle.es_cursor.specs.Seen.{IsSeen};
+    ghost use Rattle.es_cursor.specs.Giving.{GivesWay};
 
     ghost Value = { List ℕ };
 
     ghost view = { λ cursor. cursor.text.now };
 
-    ghost invariant = { λ cursor. IfSome cursor.seen (IsSeen cursor.text.now) };
+    ghost invariant = { λ cursor. IfSome cursor.seen (IsSeen cursor.text.now)
+        × All (GivesWay cursor.text.now) (values_of cursor.passed.entries) };
 }
 
 // The byte at a place, or 0 at the end.
@@ -80,6 +88,7 @@ impl<'a> Cursor<'a> {
             text,
             alloc,
             seen: None,
+            passed: BTreeMap::new(alloc),
         }
     }
 
@@ -107,23 +116,55 @@ impl<'a> Cursor<'a> {
         }
     }
 
-    /// The token at a place, read at a goal.
+    /// The token at a place, read at a goal, if one stands there.
     #[tactic(auto, unfolding(es_reader::specs::Basics::token))]
+    pub fn peek(&mut self, goal: Goal, at: u32) -> Option<Token>
+        requires { Stands self.old at }
+        ensures is { result ≡ spec.token self.old goal at }
+        ensures lies { IfSome result (Lies self.old) }
+        ensures kept { self.new ≡ self.old }
+    {
+        if let Some(token) = self.remembered(goal, at) {
+            return Some(token);
+        }
+        match look(self.text, goal, at) {
+            Ok(seen) => {
+                self.seen = Some(seen);
+                Some(seen.token)
+            }
+            Err(_) => None,
+        }
+    }
+
+    /// The token at a place, read at a goal, which has to stand there.
     pub fn token(&mut self, goal: Goal, at: u32) -> Result<Token, ParseFault>
         requires { Stands self.old at }
         ensures reads { Reads (spec.token self.old goal at) result }
         ensures lies { IfOk result (Lies self.old) }
         ensures kept { self.new ≡ self.old }
     {
-        if let Some(token) = self.remembered(goal, at) {
-            return Ok(token);
+        match self.peek(goal, at) {
+            Some(token) => Ok(token),
+            None => Err(ParseFault::Syntax),
         }
-        match look(self.text, goal, at) {
-            Ok(seen) => {
-                self.seen = Some(seen);
-                Ok(seen.token)
-            }
-            Err(_) => Err(ParseFault::Syntax),
+    }
+
+    /// Whether the attempt is known to give way.
+    pub fn has_passed(&self, passed: Passed) -> bool
+        ensures { (result ≡ true) → GivesWay self.now passed }
+    {
+        match self.passed.get(&passed.key()) {
+            Some(known) => known.is_same(passed),
+            None => false,
         }
+    }
+
+    /// Remembers that the attempt gives way.
+    pub fn pass(&mut self, passed: Passed) -> Result<(), AllocError>
+        requires { GivesWay self.old passed }
+        ensures { self.new ≡ self.old }
+    {
+        self.passed.insert(passed.key(), passed)?;
+        Ok(())
     }
 }

@@ -7,6 +7,8 @@
 #![tactic(auto)]
 
 mod cursor;
+mod passed;
 mod tell;
 
 pub use cursor::Cursor;
+pub use passed::{Attempt, Passed};
