@@ -11,22 +11,18 @@ use Rattle.pk_types.specs.declared.facts.Binding.{Binding}
 use Rattle.pk_types.specs.declared.facts.ExportEntry.{ExportEntry}
 use Rattle.pk_types.specs.declared.facts.Facts.{Facts}
 use Rattle.pk_types.specs.declared.facts.Kind.{Kind}
-use Rattle.pk_types.specs.declared.facts.Kind.TheVariants.{Es, Cjs, Json}
+use Rattle.pk_types.specs.declared.facts.Kind.TheVariants.{Es}
 use Rattle.pk_types.specs.declared.facts.Origin.{Origin}
 use Rattle.pk_types.specs.declared.facts.Origin.TheVariants.{Own, Other, Space}
 use Rattle.pk_types.specs.declared.facts.Request.{Request}
 use Rattle.pk_types.specs.declared.form.Form.TheVariants as form
 use Rattle.pk_types.specs.Fitting.{AreFitting}
-use Rattle.pk_types.specs.Lawful.{IsLawfulAs}
 use Rattle.pk_types.specs.Origins.{origin_requests, origin_bindings}
 use Rattle.pk_types.specs.Places.{ArePlacesIn}
 use Rattle.exports_run.specs.Exporting.{exporting, IsInPlace}
 
 nothing : {A : Type 0} (P : A → Type 0) → All P []
 nothing P = λ k d h. absurd (omega arith)
-
-none_apart : {A : Type 0} (eq : A → A → Bool) → IsDistinct eq []
-none_apart eq = IsDistinct-from_apart eq [] (λ i j d h k. absurd (omega arith))
 
 apart : (a b : ℕ) → a < b → nat_eq a b ≡ false
 apart a b h = by (nat_eq a b) refl
@@ -127,64 +123,3 @@ pub exporting_same : (facts : Facts) (kind : Kind) (r requests : List Request) (
     → facts ≡ exporting kind r o e s b → r ≡ requests → o ≡ order → e ≡ exports → s ≡ stars → b ≡ bindings
     → facts ≡ exporting kind requests order exports stars bindings
 exporting_same facts kind r requests o order e exports s stars b bindings is p q t u v = cc
-
-empty_lawful : (kind : Kind) → IsLawfulAs kind (exporting kind [] [] [] [] [])
-empty_lawful Es = record {
-  order = nothing _;
-  imports = nothing _;
-  exports = nothing _;
-  stars = nothing _;
-  spaces = nothing _;
-  names = nothing _;
-  calls = nothing _;
-}
-empty_lawful Cjs = record {
-  order = refl;
-  imports = refl;
-  exports = refl;
-  stars = refl;
-  calls = nothing _;
-}
-empty_lawful Json = record {
-  requests = refl;
-  order = refl;
-  imports = refl;
-  exports = refl;
-  stars = refl;
-  bindings = refl;
-  sites = refl;
-  free = refl;
-  inner = refl;
-}
-
-pub empty_fits : (kind : Kind) → AreFitting (exporting kind [] [] [] [] [])
-empty_fits kind = record {
-  places = record {
-    order = nothing _;
-    stars = nothing _;
-    imports = nothing _;
-    export_requests = nothing _;
-    export_bindings = nothing _;
-    site_bindings = nothing _;
-    site_imports = nothing _;
-    site_spaces = nothing _;
-    site_calls = nothing _;
-  };
-  lawful = record {
-    bindings = none_apart bytes_eq;
-    exports = none_apart bytes_eq;
-    order = none_apart nat_eq;
-    kind = empty_lawful kind;
-  };
-  short = record {
-    requests = omega arith;
-    order = omega arith;
-    imports = omega arith;
-    exports = omega arith;
-    stars = omega arith;
-    bindings = omega arith;
-    sites = omega arith;
-    free = omega arith;
-    inner = omega arith;
-  };
-}

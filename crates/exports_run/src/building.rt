@@ -5,9 +5,9 @@ ghost use Rattle.pk_types.specs.Fitting.{Fits};
 use crate::draft::path_of;
 use crate::facts::facts_of;
 use crate::fault::Fault;
-use module_graph::{GraphBuilder, MAX_MODULES};
+use module_graph::GraphBuilder;
 use pk_base::Path;
-use pk_types::Graph;
+use pk_types::{Graph, MAX_MODULES};
 use std::alloc::Global;
 
 // A path for each line: its number.

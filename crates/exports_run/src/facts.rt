@@ -158,19 +158,6 @@ fn checked(
     Ok(exporting(alloc, Kind::Es, requests, order, exports, stars, bindings))
 }
 
-// The facts of a module of which the kind alone is known.
-fn empty(alloc: Global, kind: Kind) -> Facts
-    ensures fitting { AreFitting result }
-    ensures requests { length result.requests ≡ 0 }
-{
-    let requests = Sequence::from_vec(Vec::new(alloc));
-    let order = Sequence::from_vec(Vec::new(alloc));
-    let exports = Sequence::from_vec(Vec::new(alloc));
-    let stars = Sequence::from_vec(Vec::new(alloc));
-    let bindings = Sequence::from_vec(Vec::new(alloc));
-    exporting(alloc, kind, requests, order, exports, stars, bindings)
-}
-
 // The facts of a module of ECMAScript, and what its requests lead to.
 fn drafted(alloc: Global, draft: Draft) -> Result<(Facts, Vec<Path>), Fault>
     ensures fitting { IfOk result (λ both. AreFitting both.0) }
@@ -195,8 +182,8 @@ pub fn facts_of(alloc: Global, line: &str) -> Result<(Facts, Vec<Path>), Fault>
     ensures each { IfOk result (λ both. length both.1.items ≡ length both.0.requests) }
 {
     match line {
-        "C" => Ok((empty(alloc, Kind::Cjs), Vec::new(alloc))),
-        "J" => Ok((empty(alloc, Kind::Json), Vec::new(alloc))),
+        "C" => Ok((Facts::none(alloc, Kind::Cjs), Vec::new(alloc))),
+        "J" => Ok((Facts::none(alloc, Kind::Json), Vec::new(alloc))),
         _ => match line.strip_prefix('E') {
             Some(words) => drafted(alloc, Draft::read(alloc, words)?),
             None => Err(Fault::Unread),

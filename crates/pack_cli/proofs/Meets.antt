@@ -1,5 +1,5 @@
 -- What a build has met, by the answer of its round and by how its lines were printed.
-use Rattle.std.proofs.Common.{◌≡◌, ◌≢◌, ℕ, Option, None, List, [], ◌++◌, Result, Ok, Err, IsTrue, refl, sym, ap, subst, ◌∙◌, append-nil}
+use Rattle.std.proofs.Common.{◌≡◌, ℕ, false, Option, None, List, [], ◌++◌, Result, Ok, Err, IsTrue, refl, sym, ap, subst, ◌∙◌, append-nil}
 use Rattle.std.specs.Prelude.{codes}
 use Rattle.pk_base.specs.Causes.{Rose, Counts}
 use Rattle.pk_base.proofs.Keeping.{asked_once}
@@ -8,7 +8,7 @@ use Rattle.pk_base.specs.Outside.{AddsPrefix}
 use Rattle.pk_base.specs.Meanings.{FilesMeaning, StoreMeaning, SourceMeaning, SinkMeaning}
 use Rattle.pack_cli.specs.Answers.{fault_line, is_read_fault, is_write_fault, lines_of}
 use Rattle.pack_cli.specs.Output.{built_lines}
-use Rattle.pack_cli.specs.Round.{Rounds}
+use Rattle.pack_cli.specs.Round.{IsUntouched, Rounds}
 use Rattle.pack_cli.specs.Headline.{Headline, Moment}
 use Rattle.pack_cli.specs.Run.{BuildMeets, HasCause, PutsLines, RunMeets, usage_line}
 use Rattle.pack_cli.specs.Headline.Builds.{refuses, leaves}
@@ -122,6 +122,29 @@ write_fault_meets _ files files_after store store_after source _ _ steps r (whol
     (record { rose = rose; reads = r.keeps.faults.kept refl; puts = same; round = r.rounds; printed = held })
 write_fault_meets _ files files_after store store_after source _ _ steps r (part sink sink_after told rose added) =
     cut_short (Err round.WriteFault) files files_after store store_after source sink sink_after steps r told rose added
+
+-- memory ran out before anything was put or printed
+ends_early : (answer : Result (List ℕ) RoundFault) (files files_after : FilesMeaning) (store store_after : StoreMeaning) (source : SourceMeaning) (sink : SinkMeaning) (steps : ℕ)
+    → Rounded answer files files_after store store_after → is_read_fault answer ≡ false → is_write_fault answer ≡ false → IsUntouched store store_after
+    → BuildMeets NoMemory (moment files store source sink steps) (moment files_after store_after source sink steps)
+ends_early answer files files_after store store_after source sink steps r read write untouched =
+    meets answer NoMemory files files_after store store_after source sink sink steps r refl
+    (λ h calm memory. absurd (memory refl))
+    (record {
+      quiet = record { reads = r.keeps.faults.kept read; writes = r.writes.kept write; takes = refl; puts = refl };
+      store = untouched;
+      printed = λ h. sym (append-nil sink.held);
+    })
+
+pub no_memory_meets : (files files_after : FilesMeaning) (store store_after : StoreMeaning) (source : SourceMeaning) (sink : SinkMeaning) (steps : ℕ)
+    → Rounded (Err round.NoMemory) files files_after store store_after → BuildMeets NoMemory (moment files store source sink steps) (moment files_after store_after source sink steps)
+no_memory_meets files files_after store store_after source sink steps r = ends_early (Err round.NoMemory) files files_after store store_after source sink steps r refl refl r.rounds
+
+-- there was none for the line of a fault
+pub no_line_meets : (fault : BuildFault) (files files_after : FilesMeaning) (store store_after : StoreMeaning) (source : SourceMeaning) (sink : SinkMeaning) (steps : ℕ)
+    → Rounded (Err (round.Refused fault)) files files_after store store_after → BuildMeets NoMemory (moment files store source sink steps) (moment files_after store_after source sink steps)
+no_line_meets fault files files_after store store_after source sink steps r =
+    ends_early (Err (round.Refused fault)) files files_after store store_after source sink steps r refl refl r.rounds.1
 
 -- words that are no command
 pub usage_meets : (command : Option Command) (status : Status) (files : FilesMeaning) (store : StoreMeaning) (source : SourceMeaning) (sink sink_after : SinkMeaning) (steps : ℕ)

@@ -1,17 +1,16 @@
 -- What the program's one call promises.
-use Rattle.std.specs.Prelude.{◌≡◌, ◌≢◌, ℕ, List, [], ◌∷◌, ◌++◌, Option, None, Some, Result, Ok, Err, codes, IsTrue, if◌then◌else◌}
+use Rattle.std.specs.Prelude.{◌≡◌, ℕ, List, [], ◌∷◌, ◌++◌, Option, None, Some, Result, Ok, Err, codes, IsTrue, if◌then◌else◌}
 use Rattle.std.specs.Str.{bytes_eq}
 use Rattle.pk_base.specs.Causes.{Rose, Counts}
-use Rattle.pk_base.specs.FileTree.{FileTree}
-use Rattle.pk_base.specs.Meanings.{FilesMeaning, StoreMeaning, SourceMeaning, SinkMeaning}
+use Rattle.pk_base.specs.Meanings.{SinkMeaning}
 use Rattle.pk_base.specs.Outside.{AddsPrefix}
 use Rattle.pack_cli.specs.Answers.{fault_line, is_read_fault, is_write_fault, lines_of}
 use Rattle.pack_cli.specs.Headline.{Headline, Moment}
 use Rattle.pk_base.specs.Keeping.{AsksOnce, KeepsFiles}
-use Rattle.watch_core.specs.Builds.{IsFirstFault, FindsBehind}
+use Rattle.watch_core.specs.Builds.{FindsBehind}
 use Rattle.watch_core.specs.declared.faults.BuildFault.{BuildFault}
 use Rattle.watch_core.specs.declared.walk.FoundModules.{FoundModules}
-use Rattle.pack_cli.specs.Output.{Bundle, Files, HasBundle, IsBundle, put_calls, put_all, built_lines}
+use Rattle.pack_cli.specs.Output.{Bundle, IsBundle, built_lines}
 use Rattle.pack_cli.specs.Round.{IsUntouched, HoldsOutput, IsUnwritten, Rounds}
 use Rattle.pack_cli.specs.declared.faults.RoundFault.{RoundFault}
 use Rattle.pack_cli.specs.declared.faults.RoundFault.TheVariants as round

@@ -1,7 +1,7 @@
 use Rattle.std.proofs.Common.{Err, subst, ◌∙◌}
 use Rattle.pack_cli.specs.Run.{PutsLines}
 use Rattle.pack_cli.specs.declared.status.Status.TheVariants.{Done, Refused}
-use Rattle.pack_cli.proofs.Meets.{Rounded, done_meets, refused_meets, read_fault_meets, write_fault_meets}
+use Rattle.pack_cli.proofs.Meets.{Rounded, done_meets, refused_meets, read_fault_meets, write_fault_meets, no_memory_meets, no_line_meets}
 use Rattle.pack_cli.proofs.top.build.Goals as goal
 
 pub returns-in-Ok : goal.returns-in-Ok
@@ -30,3 +30,15 @@ returns-in-Err-WriteFault g c source steps =
     (subst (λ e. Rounded (Err e) (g.F.Files.means c.args.files.now) (g.F.Files.means c.round.new.files) (g.O.Store.means c.args.out.now) (g.O.Store.means c.round.new.out)) c.in-Err-WriteFault.field-0-is
     (record { keeps = c.in-Err-WriteFault.ensures.keeps; rounds = c.in-Err-WriteFault.ensures.rounds; told = c.in-Err-WriteFault.ensures.told; writes = c.in-Err-WriteFault.ensures.writes }))
     c.print-in-Err-WriteFault.ensures
+
+pub returns-in-Err-Refused : goal.returns-in-Err-Refused
+returns-in-Err-Refused g c source steps =
+    no_line_meets c.in-Err-Refused.fault _ _ _ _ source _ steps
+    (subst (λ e. Rounded (Err e) (g.F.Files.means c.args.files.now) (g.F.Files.means c.round.new.files) (g.O.Store.means c.args.out.now) (g.O.Store.means c.round.new.out)) c.in-Err-Refused.field-0-is
+    (record { keeps = c.in-Err-Refused.ensures.keeps; rounds = c.in-Err-Refused.ensures.rounds; told = c.in-Err-Refused.ensures.told; writes = c.in-Err-Refused.ensures.writes }))
+
+pub returns : goal.returns
+returns g c source steps =
+    no_memory_meets _ _ _ _ source _ steps
+    (subst (λ e. Rounded (Err e) (g.F.Files.means c.args.files.now) (g.F.Files.means c.round.new.files) (g.O.Store.means c.args.out.now) (g.O.Store.means c.round.new.out)) c.in-Err-NoMemory.field-0-is
+    (record { keeps = c.in-Err-NoMemory.ensures.keeps; rounds = c.in-Err-NoMemory.ensures.rounds; told = c.in-Err-NoMemory.ensures.told; writes = c.in-Err-NoMemory.ensures.writes }))
