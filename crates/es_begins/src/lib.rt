@@ -30,7 +30,8 @@ pub use functions::{
 pub use kinds::{is_end, is_id, is_private, is_string, is_template};
 pub use modules::{begins_import, begins_import_expr};
 pub use operators::{
-    begins_nothing, begins_other, fits, is_arrow, is_assignment, is_operator, is_postfix, is_yield,
+    begins_nothing, begins_other, fits, is_arrow, is_assignment, is_loose, is_operator, is_postfix,
+    is_yield,
 };
 pub use semis::{
     closes_value, ends_expression, ends_statement, is_closed, read_free_semi, read_semi,

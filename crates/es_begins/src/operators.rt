@@ -35,8 +35,8 @@ pub fn is_operator(cursor: &Cursor, c: Context, token: Token) -> bool
     }
 }
 
-// Whether a private name may stand behind this operator.
-fn is_loose(cursor: &Cursor, op: Option<Token>) -> bool
+/// Whether a private name may stand behind this operator.
+pub fn is_loose(cursor: &Cursor, op: Option<Token>) -> bool
     requires { IfSome op (Lies cursor.now) }
     ensures { result ≡ spec.is_loose cursor.now op }
 {

@@ -1,0 +1,5 @@
+pub mod Joins
+pub mod Opens
+pub mod Laws
+pub mod Rolled
+pub mod Adding

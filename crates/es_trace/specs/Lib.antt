@@ -1,0 +1,13 @@
+pub mod Basics
+pub mod Loops
+pub mod Lists
+pub mod Tracers
+pub mod Tying
+pub mod Functions
+pub mod Expressions
+pub mod Targets
+pub mod Operators
+pub mod Statements
+pub mod Modules
+pub mod Following
+pub mod Trees

@@ -1,5 +1,0 @@
-use Rattle.es_yield.proofs.Sinks.{◌⨾◌}
-use Rattle.es_yield.proofs.program.ExportNameYields.put.Goals as goal
-
-pub returns : goal.returns
-returns c = c.put.ensures ⨾ c.put-2.ensures
