@@ -25,7 +25,7 @@ fn chain(is_name: bool, suffixes: Suffixes) -> Chain
 {
     Chain {
         at: suffixes.at,
-        is_name,
+        is_name: is_name && suffixes.is_empty,
         is_member: suffixes.end_with_member,
     }
 }
@@ -156,7 +156,7 @@ pub fn trace_lhs<K: Fn(&mut Cursor, &mut Outline, Rule, Context, u32) -> Result<
     ensures kept { outline.new.kept ≡ outline.old.kept }
 {
     let chain = trace_parts(cursor, outline, knot, c, at)?;
-    Ok(at)
+    Ok(chain.at)
 }
 
 // Suffixes of the callee of `new`, as far as they go.

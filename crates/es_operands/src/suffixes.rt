@@ -210,7 +210,7 @@ fn suffixes_behind(before: Suffixes, suffix: Suffixed) -> Suffixes
             before.follow_super
         },
         has_optional: had_optional || is_optional(kind),
-        has_plain_templates: before.has_plain_templates && !is_tagged(kind),
+        has_plain_templates: before.has_plain_templates && !(had_optional && is_tagged(kind)),
         end_with_member: !had_optional && names_member(kind),
     }
 }
