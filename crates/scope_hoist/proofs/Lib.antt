@@ -1,0 +1,10 @@
+pub mod Standing
+pub mod Holding
+pub mod Requesters
+pub mod Going
+pub mod Taken
+pub mod Rooted
+pub mod Gaining
+pub mod Barring
+pub mod Walking
+pub mod HoistedSets
