@@ -1,7 +1,7 @@
 //! Parses files at both goals.
 //!
-//! The standard input has a path of the current folder on each line. For each path a line tells its tokens and marks at the
-//! goal Script and at the goal Module, or why it has none. A file may have 256 MiB.
+//! The standard input has a path of the current folder on each line. For each path a line tells how many tokens its outline
+//! has at the goals Script and Module, or why it has none. A file may have 256 MiB.
 #![tactic(auto)]
 
 ghost use Rattle.std.specs.Prelude.{◌≡◌, ◌<◌, ◌^◌, length};
@@ -50,10 +50,7 @@ fn tell<L: Ledger>(
     requires short { length text.now < 2 ^ 32 }
 {
     match parse(alloc, text, goal, steps) {
-        Ok(outline) => {
-            let marks = outline.marks();
-            print!(rt; " {} tokens, {} marks;", count_tokens(marks), marks.len())
-        }
+        Ok(outline) => print!(rt; " {} tokens;", count_tokens(outline.marks())),
         Err(ParseFault::Syntax) => print!(rt; " syntax;"),
         Err(ParseFault::NoMemory) => print!(rt; " no memory;"),
     }
