@@ -35,8 +35,8 @@ impl<'a, K: Fn(&mut Cursor, &mut Outline, Rule, Context, u32) -> Result<Stop, Pa
     ) -> Result<u32, ParseFault>
         requires stands { Stands cursor.old at }
         requires ties { Ties (K.pre self.now.call.now) (K.post self.now.call.now) self.now.nest }
-        ensures traces { Traces ((tracers_to cursor.old self.now.nest).item c outline.old.marks at)
-            outline.new.marks result }
+        ensures traces { Traces ((tracers_to cursor.old self.now.nest).item c
+            outline.old.marks at) outline.new.marks result }
         ensures within { IfOk result (λ end. end ≤ length cursor.old) }
         ensures same { cursor.new ≡ cursor.old }
         ensures kept { outline.new.kept ≡ outline.old.kept }
@@ -55,8 +55,8 @@ impl<'a, K: Fn(&mut Cursor, &mut Outline, Rule, Context, u32) -> Result<Stop, Pa
     ) -> Result<u32, ParseFault>
         requires stands { Stands cursor.old at }
         requires ties { Ties (K.pre self.now.call.now) (K.post self.now.call.now) self.now.nest }
-        ensures traces { Traces ((tracers_to cursor.old self.now.nest).stmt c outline.old.marks at)
-            outline.new.marks result }
+        ensures traces { Traces ((tracers_to cursor.old self.now.nest).stmt c
+            outline.old.marks at) outline.new.marks result }
         ensures within { IfOk result (λ end. end ≤ length cursor.old) }
         ensures same { cursor.new ≡ cursor.old }
         ensures kept { outline.new.kept ≡ outline.old.kept }
@@ -75,8 +75,8 @@ impl<'a, K: Fn(&mut Cursor, &mut Outline, Rule, Context, u32) -> Result<Stop, Pa
     ) -> Result<Stop, ParseFault>
         requires stands { Stands cursor.old at }
         requires ties { Ties (K.pre self.now.call.now) (K.post self.now.call.now) self.now.nest }
-        ensures traces { Traces ((tracers_to cursor.old self.now.nest).assign c outline.old.marks at)
-            outline.new.marks result }
+        ensures traces { Traces ((tracers_to cursor.old self.now.nest).assign c
+            outline.old.marks at) outline.new.marks result }
         ensures within { IfOk result (λ end. end.at ≤ length cursor.old) }
         ensures same { cursor.new ≡ cursor.old }
         ensures kept { outline.new.kept ≡ outline.old.kept }
@@ -94,8 +94,8 @@ impl<'a, K: Fn(&mut Cursor, &mut Outline, Rule, Context, u32) -> Result<Stop, Pa
     ) -> Result<Stop, ParseFault>
         requires stands { Stands cursor.old at }
         requires ties { Ties (K.pre self.now.call.now) (K.post self.now.call.now) self.now.nest }
-        ensures traces { Traces ((tracers_to cursor.old self.now.nest).prefixed c outline.old.marks at)
-            outline.new.marks result }
+        ensures traces { Traces ((tracers_to cursor.old self.now.nest).prefixed c
+            outline.old.marks at) outline.new.marks result }
         ensures within { IfOk result (λ end. end.at ≤ length cursor.old) }
         ensures same { cursor.new ≡ cursor.old }
         ensures kept { outline.new.kept ≡ outline.old.kept }
@@ -113,8 +113,8 @@ impl<'a, K: Fn(&mut Cursor, &mut Outline, Rule, Context, u32) -> Result<Stop, Pa
     ) -> Result<u32, ParseFault>
         requires stands { Stands cursor.old at }
         requires ties { Ties (K.pre self.now.call.now) (K.post self.now.call.now) self.now.nest }
-        ensures traces { Traces ((tracers_to cursor.old self.now.nest).bind_pattern c outline.old.marks at)
-            outline.new.marks result }
+        ensures traces { Traces ((tracers_to cursor.old self.now.nest).bind_pattern c
+            outline.old.marks at) outline.new.marks result }
         ensures within { IfOk result (λ end. end ≤ length cursor.old) }
         ensures same { cursor.new ≡ cursor.old }
         ensures kept { outline.new.kept ≡ outline.old.kept }
@@ -133,8 +133,8 @@ impl<'a, K: Fn(&mut Cursor, &mut Outline, Rule, Context, u32) -> Result<Stop, Pa
     ) -> Result<u32, ParseFault>
         requires stands { Stands cursor.old at }
         requires ties { Ties (K.pre self.now.call.now) (K.post self.now.call.now) self.now.nest }
-        ensures traces { Traces ((tracers_to cursor.old self.now.nest).target_pattern c outline.old.marks at)
-            outline.new.marks result }
+        ensures traces { Traces ((tracers_to cursor.old self.now.nest).target_pattern c
+            outline.old.marks at) outline.new.marks result }
         ensures within { IfOk result (λ end. end ≤ length cursor.old) }
         ensures same { cursor.new ≡ cursor.old }
         ensures kept { outline.new.kept ≡ outline.old.kept }
@@ -153,8 +153,8 @@ impl<'a, K: Fn(&mut Cursor, &mut Outline, Rule, Context, u32) -> Result<Stop, Pa
     ) -> Result<u32, ParseFault>
         requires stands { Stands cursor.old at }
         requires ties { Ties (K.pre self.now.call.now) (K.post self.now.call.now) self.now.nest }
-        ensures traces { Traces ((tracers_to cursor.old self.now.nest).new c outline.old.marks at)
-            outline.new.marks result }
+        ensures traces { Traces ((tracers_to cursor.old self.now.nest).new c
+            outline.old.marks at) outline.new.marks result }
         ensures within { IfOk result (λ end. end ≤ length cursor.old) }
         ensures same { cursor.new ≡ cursor.old }
         ensures kept { outline.new.kept ≡ outline.old.kept }
@@ -173,8 +173,8 @@ impl<'a, K: Fn(&mut Cursor, &mut Outline, Rule, Context, u32) -> Result<Stop, Pa
     ) -> Result<u32, ParseFault>
         requires stands { Stands cursor.old at }
         requires ties { Ties (K.pre self.now.call.now) (K.post self.now.call.now) self.now.nest }
-        ensures traces { Traces ((tracers_to cursor.old self.now.nest).extended c outline.old.marks at)
-            outline.new.marks result }
+        ensures traces { Traces ((tracers_to cursor.old self.now.nest).extended c
+            outline.old.marks at) outline.new.marks result }
         ensures within { IfOk result (λ end. end ≤ length cursor.old) }
         ensures same { cursor.new ≡ cursor.old }
         ensures kept { outline.new.kept ≡ outline.old.kept }

@@ -27,7 +27,8 @@ pub fn comma_behind(
     at: u32,
 ) -> Result<Turn<Listed>, ParseFault>
     requires stands { Stands cursor.old at }
-    ensures traces { Traces (spec.comma_behind cursor.old outline.old.marks at) outline.new.marks result }
+    ensures traces { Traces (spec.comma_behind cursor.old outline.old.marks at)
+        outline.new.marks result }
     ensures within { IfOk result (λ turn. (state_of turn).at ≤ length cursor.old) }
     ensures same { cursor.new ≡ cursor.old }
     ensures kept { outline.new.kept ≡ outline.old.kept }
@@ -48,7 +49,8 @@ pub fn comma_or_end(
     stop: Stop,
 ) -> Result<Turn<Stop>, ParseFault>
     requires stands { Stands cursor.old stop.at }
-    ensures traces { Traces (spec.comma_or_end cursor.old outline.old.marks stop) outline.new.marks result }
+    ensures traces { Traces (spec.comma_or_end cursor.old outline.old.marks stop)
+        outline.new.marks result }
     ensures within { IfOk result (λ turn. (state_of turn).at ≤ length cursor.old) }
     ensures same { cursor.new ≡ cursor.old }
     ensures kept { outline.new.kept ≡ outline.old.kept }

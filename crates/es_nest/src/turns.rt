@@ -21,7 +21,8 @@ pub fn all_turns<
 >(cursor: &mut Cursor, outline: &mut Outline, turn: &F, first: S) -> Result<S, ParseFault>
     requires stands { Stands cursor.old (S.Placed.place first) }
     requires takes { TakesTurns S S.Placed.place (F.pre turn.now) (F.post turn.now) }
-    ensures traces { TracesTurns (F.post turn.now) cursor.old outline.old.marks first outline.new.marks result }
+    ensures traces { TracesTurns (F.post turn.now) cursor.old outline.old.marks first
+        outline.new.marks result }
     ensures within { IfOk result (λ s. S.Placed.place s ≤ length cursor.old) }
     ensures same { cursor.new ≡ cursor.old }
     ensures kept { outline.new.kept ≡ outline.old.kept }
