@@ -12,7 +12,7 @@ use es_begins::bracketed;
 use es_cursor::Cursor;
 use es_grammar::{Context, Stop};
 use es_nest::{Knot, all_turns, comma_behind, first_at};
-use es_outline::Outline;
+use es_outline::{Outline, Role};
 use es_reader::ParseFault;
 use es_trace::{Listed, Rule, Turn};
 use es_tree::{Goal, Token};
@@ -37,7 +37,7 @@ pub(crate) fn trace_mark(
     Ok(right.end)
 }
 
-/// An expression in brackets, from behind the left one on.
+/// An expression in brackets, from behind the left one on. The right one gets the role.
 #[tactic(auto, unfolding(es_trace::specs::Expressions::expr_to))]
 pub(crate) fn expr_to<
     K: Fn(&mut Cursor, &mut Outline, Rule, Context, u32) -> Result<Stop, ParseFault>,
@@ -46,19 +46,22 @@ pub(crate) fn expr_to<
     outline: &mut Outline,
     knot: &Knot<K>,
     c: Context,
+    role: Role,
     closing: &[u8],
     at: u32,
 ) -> Result<u32, ParseFault>
     requires stands { Stands cursor.old at }
     requires ties { Ties (K.pre knot.now.call.now) (K.post knot.now.call.now) knot.now.nest }
     ensures traces { Traces (spec.expr_to cursor.old (tracers_to cursor.old knot.now.nest) c
-        closing.now outline.old.marks at) outline.new.marks result }
+        role closing.now outline.old.marks at) outline.new.marks result }
     ensures within { IfOk result (λ end. end ≤ length cursor.old) }
     ensures same { cursor.new ≡ cursor.old }
     ensures kept { outline.new.kept ≡ outline.old.kept }
 {
     let end = trace_closed_expr(cursor, outline, knot, bracketed(c), at)?;
-    trace_mark(cursor, outline, closing, end)
+    let right = cursor.mark(Goal::Operator, closing, end)?;
+    outline.role(role, right)?;
+    Ok(right.end)
 }
 
 /// An assignment within brackets, behind a token that was seen.

@@ -15,7 +15,7 @@ use es_cursor::Cursor;
 use es_functions::{trace_class, trace_func};
 use es_grammar::{Context, Stop};
 use es_nest::{Knot, all_turns, comma_behind, first_at};
-use es_outline::{Outline, Part};
+use es_outline::{Outline, Part, Role};
 use es_reader::ParseFault;
 use es_trace::{Listed, Rule, Turn};
 use es_tree::{Goal, Token, TokenKind};
@@ -130,8 +130,8 @@ fn mark_primary<K: Fn(&mut Cursor, &mut Outline, Rule, Context, u32) -> Result<S
     ensures kept { outline.new.kept ≡ outline.old.kept }
 {
     if cursor.is_mark(b"(", token) {
-        outline.one(token)?;
-        return expr_to(cursor, outline, knot, c, b")", token.end);
+        outline.role(Role::Opens, token)?;
+        return expr_to(cursor, outline, knot, c, Role::Closes, b")", token.end);
     }
     if cursor.is_mark(b"[", token) {
         return trace_array(cursor, outline, knot, c, token);

@@ -61,7 +61,7 @@ fn member_suffix<K: Fn(&mut Cursor, &mut Outline, Rule, Context, u32) -> Result<
     }
     if cursor.is_mark(b"[", token) {
         outline.role(Role::Suffixes, token)?;
-        let at = expr_to(cursor, outline, knot, c, b"]", token.end)?;
+        let at = expr_to(cursor, outline, knot, c, Role::Plain, b"]", token.end)?;
         let kind = SuffixKind::Index;
         return Ok(Suffixed { at, kind });
     }
@@ -103,7 +103,7 @@ fn optional_behind<
         TokenKind::Punctuator => {
             if cursor.is_mark(b"[", next) {
                 outline.one(next)?;
-                return expr_to(cursor, outline, knot, c, b"]", next.end);
+                return expr_to(cursor, outline, knot, c, Role::Plain, b"]", next.end);
             }
             trace_args(cursor, outline, knot, c, dot.end)
         }

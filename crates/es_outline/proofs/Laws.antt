@@ -408,10 +408,10 @@ primary_at-Class class = refl
 pub primary-Class : (class : Class) → primary_marks (primary_v.Class class) ≡ within part.ClassExpression (class_marks class)
 primary-Class class = primary_opens (primary_v.Class class) ∙ ap primary_mapped (primary_v.outs-Class class) ∙ primary_at-Class class
 
-primary_at-Paren : (left : Token) (expr : ExprOf Assign) (right : Token) → primary_mapped (Primary-F.Paren left expr right) ≡ one left ⨾ expr_marks expr ⨾ one right
-primary_at-Paren left expr right = ap (λ t0. one left ⨾ t0 ⨾ one right) (separated_over assign_marks expr.list)
+primary_at-Paren : (left : Token) (expr : ExprOf Assign) (right : Token) → primary_mapped (Primary-F.Paren left expr right) ≡ told is.Opens left ⨾ expr_marks expr ⨾ told is.Closes right
+primary_at-Paren left expr right = ap (λ t0. told is.Opens left ⨾ t0 ⨾ told is.Closes right) (separated_over assign_marks expr.list)
 
-pub primary-Paren : (left : Token) (expr : ExprOf Assign) (right : Token) → primary_marks (primary_v.Paren left expr right) ≡ one left ⨾ expr_marks expr ⨾ one right
+pub primary-Paren : (left : Token) (expr : ExprOf Assign) (right : Token) → primary_marks (primary_v.Paren left expr right) ≡ told is.Opens left ⨾ expr_marks expr ⨾ told is.Closes right
 primary-Paren left expr right = primary_opens (primary_v.Paren left expr right) ∙ ap primary_mapped (primary_v.outs-Paren left expr right) ∙ primary_at-Paren left expr right
 
 base_at-Primary : (primary : Primary) → base_mapped (Base-F.Primary primary) ≡ primary_marks primary

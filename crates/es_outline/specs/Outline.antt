@@ -159,7 +159,7 @@ abbrev pub rest_marks : {X : Type 0} → (X → Lays) → Rest X → Lays
 rest_marks f rest = one rest.dots ⨾ f rest.item
 
 abbrev pub parenthesised_marks : {X : Type 0} → (X → Lays) → Parenthesised X → Lays
-parenthesised_marks f parenthesised = listed one parenthesised.opened ⨾ f parenthesised.item ⨾ listed (told is.Closes) parenthesised.closed
+parenthesised_marks f parenthesised = listed (told is.Opens) parenthesised.opened ⨾ f parenthesised.item ⨾ listed (told is.Closes) parenthesised.closed
 
 abbrev pub body_marks : {X : Type 0} → (X → Lays) → Body X → Lays
 body_marks f body = one body.left ⨾ listed f body.items ⨾ one body.right
@@ -391,7 +391,7 @@ primary_level (Primary-F.Primary::Array left elements right) = one left ⨾ list
 primary_level (Primary-F.Primary::Object left members right) = one left ⨾ listed (separated_marks inner) members ⨾ one right
 primary_level (Primary-F.Primary::Func func) = within part.FunctionExpression (inner func)
 primary_level (Primary-F.Primary::Class class) = within part.ClassExpression (inner class)
-primary_level (Primary-F.Paren left expr right) = one left ⨾ expr_of_marks inner expr ⨾ one right
+primary_level (Primary-F.Paren left expr right) = told is.Opens left ⨾ expr_of_marks inner expr ⨾ told is.Closes right
 
 abbrev pub base_level : Base-F Lays Lays Lays Lays Lays Lays Lays Lays Lays Lays Lays Lays Lays Lays Lays Lays Lays Lays Lays Lays Lays Lays Lays PartLays → Lays
 base_level (Base-F.Primary primary) = inner primary

@@ -17,7 +17,9 @@ pub enum Role {
     Label,
     /// `=` of an Initializer.
     Initializes,
-    /// `)` behind a target in parentheses.
+    /// `(` of a parenthesised expression, or before a target.
+    Opens,
+    /// `)` of such a one, or behind a target.
     Closes,
     /// `.` before the name of a property.
     Dot,

@@ -28,12 +28,12 @@ module _ (text : Bytes) (r : Tracers) (c : Context) (n i : ℕ) (h : i < n) (mar
 
   pub goes_deeper : (t : Token) → trace_bare text r c marks p ≡ None → mark text Operand (codes "(") p ≡ Some t
       → repeat (paren_turn text r c) (n - i) marks (opened p (i + 1))
-      ≡ repeat (paren_turn text r c) (n - (i + 1)) (one t marks) (opened t.end ((i + 1) + 1))
+      ≡ repeat (paren_turn text r c) (n - (i + 1)) (told is.Opens t marks) (opened t.end ((i + 1) + 1))
   unfolding paren_turn deeper
   goes_deeper t none there =
       let e : suc (i + 1) ≡ (i + 1) + 1 = omega arith in
-      let all = goes_on (paren_turn text r c) n i marks (opened p (i + 1)) h (one t marks) (opened t.end (suc (i + 1))) (rw (none, there) refl) in
-      subst (λ k. repeat (paren_turn text r c) (n - i) marks (opened p (i + 1)) ≡ repeat (paren_turn text r c) (n - (i + 1)) (one t marks) (opened t.end k)) e all
+      let all = goes_on (paren_turn text r c) n i marks (opened p (i + 1)) h (told is.Opens t marks) (opened t.end (suc (i + 1))) (rw (none, there) refl) in
+      subst (λ k. repeat (paren_turn text r c) (n - i) marks (opened p (i + 1)) ≡ repeat (paren_turn text r c) (n - (i + 1)) (told is.Opens t marks) (opened t.end k)) e all
 
   pub fails_here : (total : Traced ℕ) (after : Marks) (fault : ParseFault)
       → total ≡ closed text (repeat (paren_turn text r c) (n - i) marks (opened p (i + 1)))

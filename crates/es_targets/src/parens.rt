@@ -57,14 +57,14 @@ pub fn trace_paren_target<
     ensures same { cursor.new ≡ cursor.old }
     ensures kept { outline.new.kept ≡ outline.old.kept }
 {
-    outline.one(left)?;
+    outline.role(Role::Opens, left)?;
     let mut place = left.end;
     for turn in 0..cursor.len() + 1 {
         match try_bare(cursor, outline, knot, c, place) {
             Ok(end) => return closing(cursor, outline, turn + 1, end),
             Err(ParseFault::Syntax) => {
                 let deeper = cursor.mark(Goal::Operand, b"(", place)?;
-                outline.one(deeper)?;
+                outline.role(Role::Opens, deeper)?;
                 place = deeper.end;
             }
             Err(fault) => return Err(fault),

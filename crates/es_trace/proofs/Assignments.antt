@@ -134,7 +134,7 @@ module _ (text : Bytes) {t : Tracers} {r : Readers} (follows : AreFollowing t r)
   unfolding target_assign reads.target_assign
   target_assign_laid c marks x op = laid_if (laid assign_marks marks) (is_mark text (codes "=") op) (set_laid c marks x op) (compound_laid c marks x op)
 
-  cond_assign_laid : (c : Context) (marks : Marks) (x : Operand) (s : Stop)
+  pub cond_assign_laid : (c : Context) (marks : Marks) (x : Operand) (s : Stop)
       → cond_from text t c (operand_marks x marks) shape_v.Plain s ≡ laid assign_marks marks (reads.cond_assign text r c x s)
   unfolding reads.cond_assign
   cond_assign_laid c marks x s = laid_as cond_marks assign_marks marks marks _ (reads.cond_from text r c shape_v.Plain x s) (λ z. assign_v.Cond z)

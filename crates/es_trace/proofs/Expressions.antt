@@ -23,6 +23,7 @@ use Rattle.es_grammar.specs.Reading.{Bytes}
 use Rattle.es_grammar.specs.Semicolons.{other, stop}
 use Rattle.es_outline.specs.declared.mark.Mark.TheVariants as mark_v
 use Rattle.es_outline.specs.declared.mark.Part.TheVariants as part
+use Rattle.es_outline.specs.declared.mark.Role.{Role}
 use Rattle.es_outline.specs.declared.mark.Role.TheVariants as is
 use Rattle.es_outline.specs.Outline.{Marks, args_marks, argument_marks, assign_marks, base_marks, begin, class_marks, expr_marks, func_marks, key_marks, lhs_marks, listed, member_marks, method_marks, one, opt, piece_marks, primary_marks, put, second_argument_marks, separated_marks, suffix_marks, template_marks, told}
 use Rattle.es_outline.proofs.Laws.{base-Import, base-ImportMeta, base-New, base-NewTarget, base-Primary, base-Super, member-Method, member-Pair, member-Shorthand, member-Spread, primary-Array, primary-Class, primary-Func, primary-Literal, primary-Name, primary-Object, primary-Paren, primary-Regex, primary-Template, primary-This}
@@ -84,13 +85,13 @@ module _ (text : Bytes) {t : Tracers} {r : Readers} (follows : AreFollowing t r)
       (λ x. laid_if (laid expr_marks marks) (is_closed text x.1) refl refl)
 
   -- an Expr in brackets, whatever is made of it
-  pub expr_to_laid : {A B : Type 0} (c : Context) (closing : List ℕ) (marks : Marks) (p : ℕ) (ψ : Traced ℕ → Option B) (φ : Option A → Option B)
+  pub expr_to_laid : {A B : Type 0} (c : Context) (role : Role) (closing : List ℕ) (marks : Marks) (p : ℕ) (ψ : Traced ℕ → Option B) (φ : Option A → Option B)
       → ψ None ≡ φ None → (next : Expr → Token → Option A)
-      → ((x : Expr) (right : Token) → ψ (Some (one right (expr_marks x marks), right.end)) ≡ φ (next x right))
-      → ψ (expr_to text t c closing marks p) ≡ φ (reads.read_closed_expr text r (bracketed c) p >>= λ x.
+      → ((x : Expr) (right : Token) → ψ (Some (told role right (expr_marks x marks), right.end)) ≡ φ (next x right))
+      → ψ (expr_to text t c role closing marks p) ≡ φ (reads.read_closed_expr text r (bracketed c) p >>= λ x.
       mark text AtOperator closing x.1 >>= λ right. next x.0 right)
-  unfolding expr_to trace_mark
-  expr_to_laid c closing marks p ψ φ none next each = both_laid expr_marks marks (λ m. ψ (m >>= λ x. trace_mark text closing x.0 x.1)) φ none _
+  unfolding expr_to
+  expr_to_laid c role closing marks p ψ φ none next each = both_laid expr_marks marks (λ m. ψ (m >>= λ x. mark text AtOperator closing x.1 >>= λ right. Some (told role right x.0, right.end))) φ none _
       (reads.read_closed_expr text r (bracketed c) p) _ (closed_expr_laid (bracketed c) marks p)
       (λ x. both_seen ψ φ none (mark text AtOperator closing x.1) _ _ (λ right. each x.0 right))
 
@@ -179,7 +180,7 @@ module _ (text : Bytes) {t : Tracers} {r : Readers} (follows : AreFollowing t r)
 
   index_laid : (c : Context) (marks : Marks) (left : Token) → trace_index text t c marks left ≡ laid_suffix marks (reads.read_index text r c left)
   unfolding trace_index reads.read_index
-  index_laid c marks left = expr_to_laid c (codes "]") (told is.Suffixes left marks) left.end (λ m. m >>= λ x. Some (x.0, suffixed suffix.Index x.1))
+  index_laid c marks left = expr_to_laid c is.Plain (codes "]") (told is.Suffixes left marks) left.end (λ m. m >>= λ x. Some (x.0, suffixed suffix.Index x.1))
       (laid_suffix marks) refl _ (λ x right. refl)
 
   template_suffix_laid : (c : Context) (marks : Marks) (u : Token)
@@ -200,7 +201,7 @@ module _ (text : Bytes) {t : Tracers} {r : Readers} (follows : AreFollowing t r)
   optional_by_laid c marks u v kind.IdName = refl
   optional_by_laid c marks u v kind.Private = refl
   optional_by_laid c marks u v kind.Punctuator = both_if as_optional (laid_suffix marks) (is_mark text (codes "[") v)
-      (expr_to_laid c (codes "]") (one v (told is.Suffixes u marks)) v.end as_optional (laid_suffix marks) refl _ (λ x right. refl))
+      (expr_to_laid c is.Plain (codes "]") (one v (told is.Suffixes u marks)) v.end as_optional (laid_suffix marks) refl _ (λ x right. refl))
       (both_laid args_marks (told is.Suffixes u marks) as_optional (laid_suffix marks) refl _ (reads.read_args text r c u.end) _
       (args_laid c (told is.Suffixes u marks) u.end) (λ x. refl))
   optional_by_laid c marks u v kind.String = refl
@@ -356,9 +357,9 @@ module _ (text : Bytes) {t : Tracers} {r : Readers} (follows : AreFollowing t r)
       (λ right. law_at (primary-Object left x.0 right) marks right.end))
 
   paren_laid : (c : Context) (marks : Marks) (left : Token)
-      → expr_to text t c (codes ")") (one left marks) left.end ≡ laid primary_marks marks (reads.read_paren text r c left)
+      → expr_to text t c is.Closes (codes ")") (told is.Opens left marks) left.end ≡ laid primary_marks marks (reads.read_paren text r c left)
   unfolding reads.read_paren
-  paren_laid c marks left = expr_to_laid text follows c (codes ")") (one left marks) left.end (λ m. m) (laid primary_marks marks) refl _
+  paren_laid c marks left = expr_to_laid text follows c is.Closes (codes ")") (told is.Opens left marks) left.end (λ m. m) (laid primary_marks marks) refl _
       (λ x right. law_at (primary-Paren left x right) marks right.end)
 
   func_primary_laid : (c : Context) → Follows primary_marks (func_primary text t c) (reads.func_primary text r c)

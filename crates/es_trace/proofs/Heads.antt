@@ -143,7 +143,7 @@ module _ (text : Bytes) {t : Tracers} {r : Readers} (follows : AreFollowing t r)
       inside_if (λ o. o >>= ended_by part.For) (laid for_marks marks) (is_word text (codes "of") v) (of_laid c marks for_word None left head v)
       (inside_if (λ o. o >>= ended_by part.For) (laid for_marks marks) (is_word text (codes "in") v) (in_laid c marks for_word left head v) refl))
 
-  target_for_laid : (c : Context) (marks : Marks) (for_word left : Token)
+  pub target_for_laid : (c : Context) (marks : Marks) (for_word left : Token)
       → Fors marks (for_target text t c (opened marks for_word None left) left.end) (reads.for_target text r c for_word left)
   unfolding for_target reads.for_target
   target_for_laid c marks for_word left = laid_then (ended_by part.For) target_marks (opened marks for_word None left) (laid for_marks marks) refl _
@@ -151,7 +151,7 @@ module _ (text : Bytes) {t : Tracers} {r : Readers} (follows : AreFollowing t r)
       ap (λ m. for_each text t c m x.1 >>= ended_by part.For) (mark_at (head-Target x.0) (opened marks for_word None left))
       ∙ each_laid c marks for_word left (head_v.Target x.0) x.1)
 
-  expr_for_laid : (c : Context) (marks : Marks) (for_word left : Token)
+  pub expr_for_laid : (c : Context) (marks : Marks) (for_word left : Token)
       → Fors marks (for_expr text t c (opened marks for_word None left) left.end) (reads.for_expr text r c for_word left)
   unfolding for_expr init_expr reads.for_expr
   expr_for_laid c marks for_word left = by_expr (expressions.read_expr text r (without_in c) left.end) _ (parts.expr (without_in c) before left.end)

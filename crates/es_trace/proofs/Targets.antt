@@ -48,10 +48,10 @@ use Rattle.es_trace.proofs.Sides.{laid_turns}
 
 -- the marks of what stands in parentheses
 paren_is : (lefts : List Token) (b : Bare) (rights : List Token) (marks : Marks)
-    → listed (told is.Closes) rights (bare_marks b (listed one lefts marks)) ≡ target_marks (reads.paren_target lefts b rights) marks
-paren_is lefts (bare_v.Name u) rights marks = sym (ap (listed (told is.Closes) rights) (mark_at (target-Name u) (listed one lefts marks)))
+    → listed (told is.Closes) rights (bare_marks b (listed (told is.Opens) lefts marks)) ≡ target_marks (reads.paren_target lefts b rights) marks
+paren_is lefts (bare_v.Name u) rights marks = sym (ap (listed (told is.Closes) rights) (mark_at (target-Name u) (listed (told is.Opens) lefts marks)))
     ∙ mark_at (target-ParenName (reads.parenthesised lefts u rights)) marks
-paren_is lefts (bare_v.Member x) rights marks = sym (ap (listed (told is.Closes) rights) (mark_at (target-Member x) (listed one lefts marks)))
+paren_is lefts (bare_v.Member x) rights marks = sym (ap (listed (told is.Closes) rights) (mark_at (target-Member x) (listed (told is.Opens) lefts marks)))
     ∙ mark_at (target-ParenMember (reads.parenthesised lefts x rights)) marks
 
 closing_laid : (text : Bytes) (marks : Marks) (n : ℕ) (rights : List Token) (p : ℕ)
@@ -62,9 +62,9 @@ closing_laid text marks (suc n) rights p = seen_bind (laid (listed (told is.Clos
     ap (λ m. closing text n m u.end) (sym (listed_push (told is.Closes) rights u marks)) ∙ closing_laid text marks n (rights ++ u ∷ []) u.end)
 
 paren_closed_laid : (text : Bytes) (marks : Marks) (lefts : List Token) (b : Bare) (p : ℕ)
-    → closing text (length lefts) (bare_marks b (listed one lefts marks)) p ≡ laid target_marks marks (reads.paren_closed text lefts b p)
+    → closing text (length lefts) (bare_marks b (listed (told is.Opens) lefts marks)) p ≡ laid target_marks marks (reads.paren_closed text lefts b p)
 unfolding reads.paren_closed
-paren_closed_laid text marks lefts b p = laid_as (listed (told is.Closes)) target_marks (bare_marks b (listed one lefts marks)) marks _
+paren_closed_laid text marks lefts b p = laid_as (listed (told is.Closes)) target_marks (bare_marks b (listed (told is.Opens) lefts marks)) marks _
     (reads.closing text (length lefts) [] p) (λ rights. reads.paren_target lefts b rights) (closing_laid text _ (length lefts) [] p)
     (λ rights. paren_is lefts b rights marks)
 
@@ -75,7 +75,7 @@ length_pushed (y ∷ ys) x = ap suc (length_pushed ys x)
 -- so many parentheses behind a first one, and what they hold
 abbrev inside_laid : Marks → List Token → Inside → Traced Opened
 inside_laid marks lefts (inside.Reached p) = None
-inside_laid marks lefts (inside.Found b p) = Some (bare_marks b (listed one lefts marks), opened p (suc (length lefts)))
+inside_laid marks lefts (inside.Found b p) = Some (bare_marks b (listed (told is.Opens) lefts marks), opened p (suc (length lefts)))
 
 abbrev all_inside : Marks → Option (List Token × Inside) → Traced Opened
 all_inside marks None = None
@@ -83,7 +83,7 @@ all_inside marks (Some x) = inside_laid marks x.0 x.1
 
 -- one more parenthesis
 abbrev traced_deeper : Marks → ℕ → Token → Traced (Turn Opened)
-traced_deeper marks n u = Some (one u marks, turn_v.More (opened u.end n))
+traced_deeper marks n u = Some (told is.Opens u marks, turn_v.More (opened u.end n))
 
 abbrev read_deeper : Token → Option (TurnOf Inside Token)
 read_deeper u = Some (read_v.More u (inside.Reached u.end))
@@ -101,32 +101,32 @@ module _ (text : Bytes) {t : Tracers} {r : Readers} (follows : AreFollowing t r)
   module _ (c : Context) (marks : Marks) where
     -- all turns but the first
     abbrev Repeats : ℕ → Type 0
-    Repeats n = (lefts : List Token) (p : ℕ) → repeat (paren_turn text t c) n (listed one lefts marks) (opened p (suc (length lefts)))
+    Repeats n = (lefts : List Token) (p : ℕ) → repeat (paren_turn text t c) n (listed (told is.Opens) lefts marks) (opened p (suc (length lefts)))
         ≡ all_inside marks (loops.repeat (reads.paren_turn text r c) n lefts (inside.Reached p))
 
     deeper_laid : (n : ℕ) → Repeats n → (lefts : List Token) (p : ℕ)
-        → (deeper text (listed one lefts marks) (opened p (suc (length lefts))) >>= λ x. go_on (repeat (paren_turn text t c) n) x.0 x.1)
+        → (deeper text (listed (told is.Opens) lefts marks) (opened p (suc (length lefts))) >>= λ x. go_on (repeat (paren_turn text t c) n) x.0 x.1)
         ≡ all_inside marks (reads.deeper text p >>= loops.go_on lefts (loops.repeat (reads.paren_turn text r c) n))
     unfolding deeper reads.deeper
     deeper_laid n held lefts p = by_token (mark text Operand (codes "(") p)
       where
         by_token : (o : Option Token)
-            → ((o >>= traced_deeper (listed one lefts marks) (suc (suc (length lefts)))) >>= λ x. go_on (repeat (paren_turn text t c) n) x.0 x.1)
+            → ((o >>= traced_deeper (listed (told is.Opens) lefts marks) (suc (suc (length lefts)))) >>= λ x. go_on (repeat (paren_turn text t c) n) x.0 x.1)
             ≡ all_inside marks ((o >>= read_deeper) >>= loops.go_on lefts (loops.repeat (reads.paren_turn text r c) n))
         by_token None = refl
-        by_token (Some u) = ap (λ m. repeat (paren_turn text t c) n m (opened u.end (suc (suc (length lefts))))) (sym (listed_push one lefts u marks))
-            ∙ ap (λ k. repeat (paren_turn text t c) n (listed one (lefts ++ u ∷ []) marks) (opened u.end (suc k))) (length_pushed lefts u)
+        by_token (Some u) = ap (λ m. repeat (paren_turn text t c) n m (opened u.end (suc (suc (length lefts))))) (sym (listed_push (told is.Opens) lefts u marks))
+            ∙ ap (λ k. repeat (paren_turn text t c) n (listed (told is.Opens) (lefts ++ u ∷ []) marks) (opened u.end (suc k))) (length_pushed lefts u)
             ∙ held (lefts ++ u ∷ []) u.end
 
     turn_laid : (n : ℕ) → Repeats n → (lefts : List Token) (p : ℕ) (traced : Traced ℕ) (read : Option (Bare × ℕ))
-        → traced ≡ laid bare_marks (listed one lefts marks) read
-        → (bare_or_deeper (suc (length lefts)) traced (deeper text (listed one lefts marks) (opened p (suc (length lefts))))
+        → traced ≡ laid bare_marks (listed (told is.Opens) lefts marks) read
+        → (bare_or_deeper (suc (length lefts)) traced (deeper text (listed (told is.Opens) lefts marks) (opened p (suc (length lefts))))
         >>= λ x. go_on (repeat (paren_turn text t c) n) x.0 x.1)
         ≡ all_inside marks (reads.bare_or_deeper read (reads.deeper text p) >>= loops.go_on lefts (loops.repeat (reads.paren_turn text r c) n))
-    turn_laid n held lefts p traced None is = ap (λ o. bare_or_deeper (suc (length lefts)) o (deeper text (listed one lefts marks)
-        (opened p (suc (length lefts)))) >>= λ x. go_on (repeat (paren_turn text t c) n) x.0 x.1) is ∙ deeper_laid n held lefts p
-    turn_laid n held lefts p traced (Some b) is = ap (λ o. bare_or_deeper (suc (length lefts)) o (deeper text (listed one lefts marks)
-        (opened p (suc (length lefts)))) >>= λ x. go_on (repeat (paren_turn text t c) n) x.0 x.1) is
+    turn_laid n held lefts p traced None e = ap (λ o. bare_or_deeper (suc (length lefts)) o (deeper text (listed (told is.Opens) lefts marks)
+        (opened p (suc (length lefts)))) >>= λ x. go_on (repeat (paren_turn text t c) n) x.0 x.1) e ∙ deeper_laid n held lefts p
+    turn_laid n held lefts p traced (Some b) e = ap (λ o. bare_or_deeper (suc (length lefts)) o (deeper text (listed (told is.Opens) lefts marks)
+        (opened p (suc (length lefts)))) >>= λ x. go_on (repeat (paren_turn text t c) n) x.0 x.1) e
 
     parens_laid : (n : ℕ) → Repeats n
     unfolding repeat loops.repeat paren_turn
@@ -134,23 +134,23 @@ module _ (text : Bytes) {t : Tracers} {r : Readers} (follows : AreFollowing t r)
     parens_laid (suc n) lefts p = turn_laid n (parens_laid n) lefts p _ (reads.read_bare text r c p) (bare_laid c _ p)
 
   paren_behind_laid : (marks : Marks) (left : Token) (traced : Traced Opened) (lefts : List Token) (i : Inside)
-      → traced ≡ inside_laid (one left marks) lefts i
+      → traced ≡ inside_laid (told is.Opens left marks) lefts i
       → (traced >>= λ x. closing text x.1.count x.0 x.1.at) ≡ laid target_marks marks (reads.paren_inside text (left ∷ lefts) i)
-  paren_behind_laid marks left traced lefts (inside.Reached p) is = ap (λ o. o >>= λ x. closing text x.1.count x.0 x.1.at) is
-  paren_behind_laid marks left traced lefts (inside.Found b p) is = ap (λ o. o >>= λ x. closing text x.1.count x.0 x.1.at) is
+  paren_behind_laid marks left traced lefts (inside.Reached p) e = ap (λ o. o >>= λ x. closing text x.1.count x.0 x.1.at) e
+  paren_behind_laid marks left traced lefts (inside.Found b p) e = ap (λ o. o >>= λ x. closing text x.1.count x.0 x.1.at) e
       ∙ paren_closed_laid text marks (left ∷ lefts) b p
 
   paren_read_laid : (marks : Marks) (left : Token) (traced : Traced Opened) (read : Option (List Token × Inside))
-      → traced ≡ all_inside (one left marks) read → (traced >>= λ x. closing text x.1.count x.0 x.1.at)
+      → traced ≡ all_inside (told is.Opens left marks) read → (traced >>= λ x. closing text x.1.count x.0 x.1.at)
       ≡ laid target_marks marks (read >>= λ xs. reads.paren_inside text (left ∷ xs.0) xs.1)
-  paren_read_laid marks left traced None is = ap (λ o. o >>= λ x. closing text x.1.count x.0 x.1.at) is
-  paren_read_laid marks left traced (Some x) is = paren_behind_laid marks left traced x.0 x.1 is
+  paren_read_laid marks left traced None e = ap (λ o. o >>= λ x. closing text x.1.count x.0 x.1.at) e
+  paren_read_laid marks left traced (Some x) e = paren_behind_laid marks left traced x.0 x.1 e
 
   pub paren_target_laid : (c : Context) (marks : Marks) (left : Token)
       → trace_paren_target text t c marks left ≡ laid target_marks marks (reads.read_paren_target text r c left)
   unfolding trace_paren_target reads.read_paren_target
   paren_target_laid c marks left = paren_read_laid marks left _ (loops.all_turns text (reads.paren_turn text r c) (inside.Reached left.end))
-      (parens_laid c (one left marks) (length text + 1) [] left.end)
+      (parens_laid c (told is.Opens left marks) (length text + 1) [] left.end)
 
   -- Targets
 

@@ -10,6 +10,7 @@ use Rattle.es_grammar.specs.Expressions.{literal_words, opens}
 use Rattle.es_grammar.specs.Reading.{Bytes}
 use Rattle.es_outline.specs.declared.mark.Mark.TheVariants.{Call as call, Shorthand as shorthand, Tag as tag}
 use Rattle.es_outline.specs.declared.mark.Part.TheVariants as part
+use Rattle.es_outline.specs.declared.mark.Role.{Role}
 use Rattle.es_outline.specs.declared.mark.Role.TheVariants as is
 use Rattle.es_outline.specs.Outline.{Marks, begin, end, one, put, told}
 use Rattle.es_reader.specs.Basics.{◌>>=◌, token, is_mark, is_name, is_one_word, is_word, mark, word}
@@ -42,9 +43,10 @@ trace_closed_expr text r c marks p = trace_expr text r c marks p >>= λ x. if is
 unfoldable pub trace_mark : Bytes → List ℕ → Tracer
 trace_mark text closing marks p = mark text AtOperator closing p >>= λ right. Some (one right marks, right.end)
 
--- an Expr in brackets, from behind the left one on
-unfoldable pub expr_to : Bytes → Tracers → Context → List ℕ → Tracer
-expr_to text r c closing marks p = trace_closed_expr text r (bracketed c) marks p >>= λ x. trace_mark text closing x.0 x.1
+-- an Expr in brackets, from behind the left one on; what the right one is
+unfoldable pub expr_to : Bytes → Tracers → Context → Role → List ℕ → Tracer
+expr_to text r c role closing marks p = trace_closed_expr text r (bracketed c) marks p >>= λ x.
+    mark text AtOperator closing x.1 >>= λ right. Some (told role right x.0, right.end)
 
 abbrev pub piece_turn : Bytes → Token → Turn ℕ
 piece_turn text t = if opens text t then more t.end else ended t.end
@@ -101,7 +103,7 @@ unfoldable pub trace_dot : Bytes → Marks → Token → Suffixing
 trace_dot text marks t = token text AtOperand t.end >>= λ u. dot_by marks t u u.kind
 
 unfoldable pub trace_index : Bytes → Tracers → Context → Marks → Token → Suffixing
-trace_index text r c marks left = expr_to text r c (codes "]") (told is.Suffixes left marks) left.end >>= λ x. Some (x.0, suffixed suffix.Index x.1)
+trace_index text r c marks left = expr_to text r c is.Plain (codes "]") (told is.Suffixes left marks) left.end >>= λ x. Some (x.0, suffixed suffix.Index x.1)
 
 unfoldable pub template_suffix : Bytes → Tracers → Context → Marks → Token → Suffixing
 template_suffix text r c marks t = template_from text r c (put tag marks) t >>= λ x. Some (x.0, suffixed suffix.Template x.1)
@@ -114,7 +116,7 @@ abbrev pub optional_by : Bytes → Tracers → Context → Marks → Token → T
 optional_by text r c marks t u kind.IdName = Some (one u marks, u.end)
 optional_by text r c marks t u kind.Private = Some (one u marks, u.end)
 optional_by text r c marks t u kind.Punctuator =
-    if is_mark text (codes "[") u then expr_to text r c (codes "]") (one u marks) u.end else trace_args text r c marks t.end
+    if is_mark text (codes "[") u then expr_to text r c is.Plain (codes "]") (one u marks) u.end else trace_args text r c marks t.end
 optional_by text r c marks t u _ = None
 
 -- what stands behind `?.`
@@ -252,7 +254,7 @@ word_primary text r c marks p t =
 
 unfoldable pub mark_primary : Bytes → Tracers → Context → Marks → Token → Traced ℕ
 mark_primary text r c marks t =
-    if is_mark text (codes "(") t then expr_to text r c (codes ")") (one t marks) t.end
+    if is_mark text (codes "(") t then expr_to text r c is.Closes (codes ")") (told is.Opens t marks) t.end
     else (if is_mark text (codes "[") t then trace_array text r c marks t
     else (if is_mark text (codes "{") t then trace_object text r c marks t else None))
 

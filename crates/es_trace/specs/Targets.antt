@@ -47,7 +47,7 @@ abbrev pub opened : ℕ → ℕ → Opened
 opened p n = record { at = p; count = n }
 
 unfoldable pub deeper : Bytes → Marks → Opened → Traced (Turn Opened)
-deeper text marks s = mark text Operand (codes "(") s.at >>= λ t. Some (one t marks, more (opened t.end (suc s.count)))
+deeper text marks s = mark text Operand (codes "(") s.at >>= λ t. Some (told is.Opens t marks, more (opened t.end (suc s.count)))
 
 abbrev pub bare_or_deeper : ℕ → Traced ℕ → Traced (Turn Opened) → Traced (Turn Opened)
 bare_or_deeper n None turn = turn
@@ -65,7 +65,7 @@ closing text (suc n) marks p = mark text Operator (codes ")") p >>= λ t. closin
 -- a Name or a member in parentheses, the first of which was seen. Where the turns end they have found it.
 unfoldable pub trace_paren_target : Bytes → Tracers → Context → Marks → Token → Traced ℕ
 trace_paren_target text r c marks left =
-    all_turns text (paren_turn text r c) (one left marks) (opened left.end 1) >>= λ x. closing text x.1.count x.0 x.1.at
+    all_turns text (paren_turn text r c) (told is.Opens left marks) (opened left.end 1) >>= λ x. closing text x.1.count x.0 x.1.at
 
 -- a Name, or a member without `?.`, either in parentheses
 unfoldable pub trace_simple_target : Bytes → Tracers → Context → Marks → ℕ → Traced ℕ

@@ -32,7 +32,7 @@ loop-turn-preserved g c =
     let same = c.in-Err-Syntax.ensures.same in
     let back = c.in-Err-Syntax.ensures.back in
     let kept = c.in_ok-deeper-in-Err-Syntax.ensures.kept in
-    let marks = c.in_ok-one-in-Err-Syntax.ensures.marks in
+    let marks = c.in_ok-role-in-Err-Syntax.ensures.marks in
     let lies = c.in_ok-deeper-in-Err-Syntax.ensures.lies in
     let none = subst (λ f. Traces (trace_bare c.loop-turn.cursor (tracers_to c.loop-turn.cursor c.args.knot.now.nest) c.args.c c.loop-turn.outline.marks
     c.loop-turn.place) c.try_bare.new.outline.marks (Err f)) c.in-Err-Syntax.field-0-is c.in-Err-Syntax.ensures.traces in
@@ -41,7 +41,7 @@ loop-turn-preserved g c =
     let deep = goes_deeper c.loop-turn.cursor (tracers_to c.loop-turn.cursor c.args.knot.now.nest) c.args.c (c.len-turn-end.result + 1) c.loop-turn.turn
     (omega arith) c.loop-turn.outline.marks c.loop-turn.place c.in_ok-deeper-in-Err-Syntax.deeper none there in (
       cc (c.loop-turn.invariant.0, same, kept),
-      cc (c.loop-turn.invariant.1, c.in-Err-Syntax.ensures.kept, c.in_ok-one-in-Err-Syntax.ensures.kept),
+      cc (c.loop-turn.invariant.1, c.in-Err-Syntax.ensures.kept, c.in_ok-role-in-Err-Syntax.ensures.kept),
       rw kept (record { short = lies.short; inside = lies.inside }),
       rw (kept, same, marks, back) (c.loop-turn.invariant.3 ∙ rw deep refl),
     )
