@@ -1,0 +1,15 @@
+pub mod Parts
+pub mod Source
+pub mod Occurrences
+pub mod Scopes
+pub mod Refers
+pub mod Twice
+pub mod Listed
+pub mod Asking
+pub mod Declaring
+pub mod Exporting
+pub mod Around
+pub mod SiteRules
+pub mod Refused
+pub mod FactsOf
+pub mod Faults
