@@ -4,6 +4,7 @@ pub mod Occurrences
 pub mod Scopes
 pub mod Refers
 pub mod Twice
+pub mod Frames
 pub mod Listed
 pub mod Asking
 pub mod Declaring

@@ -5,6 +5,10 @@
 //! references (`Refers`) to the facts (`FactsOf`) and the first fault (`Faults`). Nothing here runs yet.
 #![tactic(auto)]
 
+mod frame;
 mod kinds;
+mod open_parts;
+mod outlined;
 
 pub use kinds::{DeclarationKind, EarlyError, Refusal};
+pub use outlined::Outlined;
