@@ -5,6 +5,10 @@ pub mod Scopes
 pub mod Refers
 pub mod Twice
 pub mod Frames
+pub mod Named
+pub mod Firsts
+pub mod Found
+pub mod Claims
 pub mod Listed
 pub mod Asking
 pub mod Declaring

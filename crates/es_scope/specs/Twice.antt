@@ -1,6 +1,6 @@
 -- Names that a scope declares twice: two lexical declarations, or one and a `var` in it or through it. Parameters and the names of `catch`
 -- are neither.
-use Rattle.std.specs.Prelude.{◌≡◌, ℕ, ◌+◌, ◌<◌, ◌≤◌, Bool, true, false}
+use Rattle.std.specs.Prelude.{◌≡◌, ℕ, ◌+◌, ◌<◌, ◌≤◌, Bool, true, false, Option, Some, None}
 use Rattle.es_tree.specs.declared.tokens.ProgramGoal.TheVariants.{Script}
 use Rattle.es_outline.specs.declared.mark.Mark.TheVariants as mark
 use Rattle.es_outline.specs.declared.mark.Part.{Part}
@@ -47,3 +47,8 @@ pub record IsTwice (source : Source) (place : ℕ) : Type 0 where
   pub before : earlier < place
   pub clash : Clash source scope earlier place
   pub same : name_at source earlier ≡ name_at source place
+
+-- the first place that is one too many, if there is one
+pub data IsFirstTwice (source : Source) : Option ℕ → Type 0 where
+  none : ((place : ℕ) → ¬ IsTwice source place) → IsFirstTwice source None
+  some : (place : ℕ) → IsTwice source place → ((other : ℕ) → IsTwice source other → place ≤ other) → IsFirstTwice source (Some place)

@@ -5,10 +5,12 @@
 //! references (`Refers`) to the facts (`FactsOf`) and the first fault (`Faults`). Nothing here runs yet.
 #![tactic(auto)]
 
+mod found;
 mod frame;
 mod kinds;
 mod open_parts;
 mod outlined;
 
+pub use found::Declared;
 pub use kinds::{DeclarationKind, EarlyError, Refusal};
 pub use outlined::Outlined;
