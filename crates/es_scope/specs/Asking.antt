@@ -1,5 +1,5 @@
 -- What a module asks for: by declarations, by `import()`, and in CommonJS by `require()`.
-use Rattle.std.specs.Prelude.{◌≡◌, ◌⊎◌, ℕ, ◌+◌, ◌<◌, Bool, true, false, List, codes}
+use Rattle.std.specs.Prelude.{◌≡◌, ◌⊎◌, ℕ, ◌+◌, ◌<◌, true, false, List, codes}
 use Rattle.es_tree.specs.declared.tokens.Token.{Token}
 use Rattle.es_tree.specs.declared.tokens.TokenKind.TheVariants as token_kind
 use Rattle.es_tree.specs.declared.tokens.ProgramGoal.TheVariants.{Script}
@@ -9,10 +9,9 @@ use Rattle.es_outline.specs.declared.mark.Mark.TheVariants as mark
 use Rattle.es_outline.specs.declared.mark.Role.{Role}
 use Rattle.es_outline.specs.declared.mark.Role.TheVariants as is
 use Rattle.es_outline.specs.declared.mark.Part.{Part}
-use Rattle.es_outline.specs.declared.mark.Part.TheVariants as part
 use Rattle.pk_types.specs.declared.form.Form.TheVariants as form
 use Rattle.pk_types.specs.declared.facts.Request.{Request}
-use Rattle.es_scope.specs.Parts.{NearestPart}
+use Rattle.es_scope.specs.Parts.{IsDirectlyIn}
 use Rattle.es_scope.specs.Source.{Source, IsMark, IsToken, HasRole, spelled_at, name_at}
 use Rattle.es_scope.specs.Refers.{IsFreeNamed}
 
@@ -86,19 +85,12 @@ pub record AsksFirst (source : Source) (place : ℕ) (request : Request) : Type 
   pub asks : AsksFor source place request
   pub first : (other : ℕ) → AsksFor source other request → place < other ⊎ (place ≡ other)
 
--- declarations with a request
-abbrev pub is_asking : Part → Bool
-is_asking part.ImportDeclaration = true
-is_asking part.ExportStar = true
-is_asking part.ExportList = true
-is_asking _ = false
-
--- the request of the declaration that the place stands in
+-- the request of the declaration that the place stands directly in
 pub record RequestOf (source : Source) (place : ℕ) (request : Request) : Type 0 where
   pub which : Part
   pub opening : ℕ
   pub at : ℕ
-  pub here : NearestPart is_asking source.marks place which opening
-  pub there : NearestPart is_asking source.marks at which opening
+  pub here : IsDirectlyIn source.marks place which opening
+  pub there : IsDirectlyIn source.marks at which opening
   pub is_request : HasRole source at is.Request
   pub asks : AsksFor source at request

@@ -1,22 +1,21 @@
 -- What a module imports, and what it declares at its top.
-use Rattle.std.specs.Prelude.{◌≡◌, ℕ, ◌+◌, ◌≤◌, Bool, true, false, List, Option, Some, None, IfSome, slice_get, codes}
+use Rattle.std.specs.Prelude.{◌≡◌, ℕ, ◌+◌, ◌≤◌, List, Option, Some, None, IsSomeAnd, slice_get, codes}
 use Rattle.es_tree.specs.declared.tokens.Token.{Token}
 use Rattle.es_outline.specs.declared.mark.Mark.TheVariants as mark
 use Rattle.es_outline.specs.declared.mark.Role.{Role}
 use Rattle.es_outline.specs.declared.mark.Role.TheVariants as is
-use Rattle.es_outline.specs.declared.mark.Part.{Part}
 use Rattle.es_outline.specs.declared.mark.Part.TheVariants as part
-use Rattle.pk_types.specs.declared.facts.Facts.{Facts}
 use Rattle.pk_types.specs.declared.facts.ImportEntry.{ImportEntry}
 use Rattle.pk_types.specs.declared.facts.Binding.{Binding}
 use Rattle.pk_types.specs.declared.facts.BindKind.{BindKind}
 use Rattle.pk_types.specs.declared.facts.BindKind.TheVariants as bind
 use Rattle.es_scope.specs.declared.kinds.DeclarationKind.{DeclarationKind}
 use Rattle.es_scope.specs.declared.kinds.DeclarationKind.TheVariants as kind
-use Rattle.es_scope.specs.Parts.{NearestPart}
+use Rattle.es_scope.specs.Parts.{IsDirectlyIn}
 use Rattle.es_scope.specs.Source.{Source, IsMark, IsToken, HasRole, name_at}
 use Rattle.es_scope.specs.Occurrences.{IsDeclared}
 use Rattle.es_scope.specs.Scopes.{Declares, BelongsTo}
+use Rattle.es_scope.specs.Known.{Known}
 use Rattle.es_scope.specs.Asking.{RequestOf}
 
 -- a token stands at the place that starts at this byte
@@ -24,8 +23,8 @@ abbrev pub StartsAt : Source → ℕ → ℕ → Type 0
 StartsAt source place start = (role : Role) × (token : Token) × IsToken source place role token × (start ≡ token.start)
 
 -- the request of this number is that of the declaration at the place
-abbrev pub IsRequestOf : Source → Facts → ℕ → ℕ → Type 0
-IsRequestOf source facts place number = IfSome (slice_get facts.requests number) (RequestOf source place)
+abbrev pub IsRequestOf : Source → Known → ℕ → ℕ → Type 0
+IsRequestOf source known place number = IsSomeAnd (slice_get known.requests number) (RequestOf source place)
 
 abbrev pub default : List ℕ
 default = codes "default"
@@ -39,11 +38,11 @@ pub data Imports (source : Source) (place : ℕ) : Option (List ℕ) → ℕ →
   space : (star : ℕ) → star + 2 ≡ place → HasRole source place is.ImportedSpace → Imports source place None star
 
 -- the import at the place is this entry
-pub record IsImport (source : Source) (facts : Facts) (place : ℕ) (entry : ImportEntry) : Type 0 where
+pub record IsImport (source : Source) (known : Known) (place : ℕ) (entry : ImportEntry) : Type 0 where
   pub said : ℕ
   pub imports : Imports source place entry.name said
   pub starts : StartsAt source said entry.place
-  pub request : IsRequestOf source facts place entry.request
+  pub request : IsRequestOf source known place entry.request
 
 -- a declaration of the top that is no import, as bindings tell it
 pub data IsBindKind : DeclarationKind → BindKind → Type 0 where
@@ -66,17 +65,10 @@ pub record IsDefault (source : Source) (opening place : ℕ) : Type 0 where
 abbrev pub ExportsValue : Source → ℕ → Type 0
 ExportsValue source opening = IsMark source (opening + 3) (mark.Begin part.ExportedValue)
 
-abbrev pub is_default : Part → Bool
-is_default part.ExportDefault = true
-is_default part.ExportedValue = true
-is_default part.Function = true
-is_default part.Class = true
-is_default _ = false
-
 -- the mark that its function or class has no name stands here
 pub record IsUnnamed (source : Source) (opening unnamed : ℕ) : Type 0 where
   pub stands : IsMark source unnamed mark.Unnamed
-  pub nearest : NearestPart is_default source.marks unnamed part.ExportDefault opening
+  pub within : IsDirectlyIn source.marks unnamed part.ExportDefault opening
 
 -- what an `export default` binds without a name
 pub data BindsUnnamed (source : Source) (place : ℕ) : BindKind → Type 0 where

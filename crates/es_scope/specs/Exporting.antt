@@ -1,21 +1,20 @@
 -- What a module exports, under which names, and which exports are faults.
-use Rattle.std.specs.Prelude.{◌≡◌, ℕ, ◌+◌, ◌<◌, Bool, true, false, List, Option, Some, None, IfSome, slice_get}
+use Rattle.std.specs.Prelude.{◌≡◌, ℕ, ◌+◌, ◌<◌, List, Option, Some, None}
 use Rattle.es_outline.specs.declared.mark.Mark.TheVariants as mark
 use Rattle.es_outline.specs.declared.mark.Role.TheVariants as is
-use Rattle.es_outline.specs.declared.mark.Part.{Part}
 use Rattle.es_outline.specs.declared.mark.Part.TheVariants as part
-use Rattle.pk_types.specs.declared.facts.Facts.{Facts}
 use Rattle.pk_types.specs.declared.facts.ExportEntry.{ExportEntry}
 use Rattle.pk_types.specs.declared.facts.BindKind.{BindKind}
 use Rattle.pk_types.specs.declared.facts.Origin.{Origin}
 use Rattle.pk_types.specs.declared.facts.Origin.TheVariants.{Own, Other, Space}
 use Rattle.es_scope.specs.declared.kinds.DeclarationKind.{DeclarationKind}
-use Rattle.es_scope.specs.Parts.{NearestPart}
+use Rattle.es_scope.specs.Parts.{IsDirectlyIn}
 use Rattle.es_scope.specs.Source.{Source, IsMark, HasRole, name_at}
-use Rattle.es_scope.specs.Occurrences.{IsDeclared, ExportsFrom}
-use Rattle.es_scope.specs.Scopes.{Declares, BelongsTo}
+use Rattle.es_scope.specs.Occurrences.{IsDeclared, BoundBy, ExportsFrom}
+use Rattle.es_scope.specs.Scopes.{Declares}
 use Rattle.es_scope.specs.Refers.{Refers}
-use Rattle.es_scope.specs.Declaring.{StartsAt, IsRequestOf, Imports, IsDefault, BindsUnnamed, default, default_binding, is_default}
+use Rattle.es_scope.specs.Known.{Known, IsBindingNamed}
+use Rattle.es_scope.specs.Declaring.{StartsAt, IsRequestOf, Imports, IsDefault, BindsUnnamed, default, default_binding}
 
 -- the name by which the specifier at the place exports
 pub data ExportedAs (source : Source) (place : ℕ) : List ℕ → Type 0 where
@@ -36,17 +35,12 @@ pub record ExportsAll (source : Source) (place : ℕ) : Type 0 where
   pub place_is : place ≡ opening + 2
   pub unnamed : ¬ HasRole source (place + 2) is.Outer
 
-abbrev pub is_exported_declaration : Part → Bool
-is_exported_declaration part.ExportedDeclaration = true
-is_exported_declaration _ = false
-
--- the place declares a name of the top in an exported declaration
-pub record ExportsDeclared (source : Source) (place : ℕ) : Type 0 where
-  pub how : DeclarationKind
-  pub opening : ℕ
-  pub declared : IsDeclared source place how
-  pub belongs : BelongsTo source place 0
-  pub exported : NearestPart is_exported_declaration source.marks place part.ExportedDeclaration opening
+-- The place declares a name in an exported declaration: by `var`, `let` or `const` right behind `export`, or as its function or class.
+pub data ExportsDeclared (source : Source) (place : ℕ) : Type 0 where
+  by_word : (opening : ℕ) → IsMark source opening (mark.Begin part.ExportedDeclaration) → HasRole source place is.Bound
+      → BoundBy source place part.Declaration (opening + 2) → ExportsDeclared source place
+  other : (opening : ℕ) (how : DeclarationKind) → IsDeclared source place how → IsDirectlyIn source.marks place part.ExportedDeclaration opening
+      → ExportsDeclared source place
 
 -- the place exports by this name
 pub data ExportsName (source : Source) (place : ℕ) : List ℕ → Type 0 where
@@ -70,32 +64,28 @@ pub data ExportsWhat (source : Source) (place : ℕ) : Exportable → Type 0 whe
   space : ExportsSpace source place → ExportsWhat source place Exportable.space
   declared : (declaration : ℕ) → ExportsDeclared source place → Refers source place 0 declaration → ExportsWhat source place (Exportable.declared declaration)
   by_default : (opening at declaration : ℕ) (how : DeclarationKind) → IsDefault source opening place → IsDeclared source at how
-      → NearestPart is_default source.marks at part.ExportDefault opening → Refers source at 0 declaration
+      → IsDirectlyIn source.marks at part.ExportDefault opening → Refers source at 0 declaration
       → ExportsWhat source place (Exportable.declared declaration)
   unnamed : (how : BindKind) → BindsUnnamed source place how → ExportsWhat source place Exportable.unnamed
 
--- the binding of this number has the name
-abbrev pub IsBindingNamed : Facts → ℕ → List ℕ → Type 0
-IsBindingNamed facts number name = IfSome (slice_get facts.bindings number) (λ binding. binding.name ≡ name)
-
 -- what the place exports comes from here; an import that is exported again comes from where it is imported from
-pub data ComesFrom (source : Source) (facts : Facts) (place : ℕ) : Exportable → Origin → Type 0 where
+pub data ComesFrom (source : Source) (known : Known) (place : ℕ) : Exportable → Origin → Type 0 where
   own : (declaration number : ℕ) → ((name : Option (List ℕ)) (said : ℕ) → ¬ Imports source declaration name said)
-      → IsBindingNamed facts number (name_at source declaration) → ComesFrom source facts place (Exportable.declared declaration) (Own number)
-  imported : (declaration said request : ℕ) (name : List ℕ) → Imports source declaration (Some name) said → IsRequestOf source facts declaration request
-      → ComesFrom source facts place (Exportable.declared declaration) (Other request name)
-  imported_space : (declaration said request : ℕ) → Imports source declaration None said → IsRequestOf source facts declaration request
-      → ComesFrom source facts place (Exportable.declared declaration) (Space request)
-  foreign : (request : ℕ) (name : List ℕ) → IsRequestOf source facts place request → ComesFrom source facts place (Exportable.foreign name) (Other request name)
-  space : (request : ℕ) → IsRequestOf source facts place request → ComesFrom source facts place Exportable.space (Space request)
-  unnamed : (number : ℕ) → IsBindingNamed facts number default_binding → ComesFrom source facts place Exportable.unnamed (Own number)
+      → IsBindingNamed known number (name_at source declaration) → ComesFrom source known place (Exportable.declared declaration) (Own number)
+  imported : (declaration said request : ℕ) (name : List ℕ) → Imports source declaration (Some name) said → IsRequestOf source known declaration request
+      → ComesFrom source known place (Exportable.declared declaration) (Other request name)
+  imported_space : (declaration said request : ℕ) → Imports source declaration None said → IsRequestOf source known declaration request
+      → ComesFrom source known place (Exportable.declared declaration) (Space request)
+  foreign : (request : ℕ) (name : List ℕ) → IsRequestOf source known place request → ComesFrom source known place (Exportable.foreign name) (Other request name)
+  space : (request : ℕ) → IsRequestOf source known place request → ComesFrom source known place Exportable.space (Space request)
+  unnamed : (number : ℕ) → IsBindingNamed known number default_binding → ComesFrom source known place Exportable.unnamed (Own number)
 
 -- the export that stands at the place
-pub record IsExport (source : Source) (facts : Facts) (place : ℕ) (entry : ExportEntry) : Type 0 where
+pub record IsExport (source : Source) (known : Known) (place : ℕ) (entry : ExportEntry) : Type 0 where
   pub what : Exportable
   pub named : ExportsName source place entry.name
   pub exports : ExportsWhat source place what
-  pub origin : ComesFrom source facts place what entry.origin
+  pub origin : ComesFrom source known place what entry.origin
   pub starts : StartsAt source place entry.place
 
 -- a place before exports by the same name

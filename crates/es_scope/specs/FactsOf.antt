@@ -12,6 +12,7 @@ use Rattle.pk_types.specs.ExportedNames.{AreInByteOrder}
 use Rattle.es_scope.specs.Source.{Source, HasRole}
 use Rattle.es_scope.specs.Scopes.{Declares, BelongsTo}
 use Rattle.es_scope.specs.Refers.{IsFreeNamed}
+use Rattle.es_scope.specs.Known.{known_of}
 use Rattle.es_scope.specs.Listed.{AreThose}
 use Rattle.es_scope.specs.Asking.{AsksFor, AsksFirst}
 use Rattle.es_scope.specs.Declaring.{IsImport, IsBinding, IsRequestOf}
@@ -33,7 +34,7 @@ pub record IsOrdered (source : Source) (facts : Facts) (place number : ℕ) : Ty
 -- the `export * from` at the place has the request of this number
 pub record IsStar (source : Source) (facts : Facts) (place number : ℕ) : Type 0 where
   pub all : ExportsAll source place
-  pub request : IsRequestOf source facts place number
+  pub request : IsRequestOf source (known_of facts) place number
 
 -- a free occurrence in the text has this name
 abbrev pub IsUsedFree : Source → List ℕ → Type 0
@@ -55,11 +56,11 @@ pub record AreFacts (source : Source) (facts : Facts) : Type 0 where
   pub kind : facts.kind ≡ kind_of source.goal
   pub requests : AreThose (AsksFirst source) facts.requests
   pub order : AreThose (IsOrdered source facts) facts.order
-  pub imports : AreThose (IsImport source facts) facts.imports
-  pub exports : AreThose (IsExport source facts) facts.exports
+  pub imports : AreThose (IsImport source (known_of facts)) facts.imports
+  pub exports : AreThose (IsExport source (known_of facts)) facts.exports
   pub stars : AreThose (IsStar source facts) facts.stars
   pub bindings : AreThose (IsBinding source) facts.bindings
-  pub sites : AreThose (IsSite source facts) facts.sites
+  pub sites : AreThose (IsSite source (known_of facts)) facts.sites
   pub free : (name : List ℕ) → Contains facts.free name ↔ IsUsedFree source name
   pub inner : (name : List ℕ) → Contains facts.inner name ↔ IsInner source name
   pub free_order : AreInByteOrder facts.free

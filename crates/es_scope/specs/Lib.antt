@@ -9,6 +9,7 @@ pub mod Named
 pub mod Firsts
 pub mod Found
 pub mod Claims
+pub mod Known
 pub mod Listed
 pub mod Asking
 pub mod Declaring

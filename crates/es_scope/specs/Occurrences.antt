@@ -7,7 +7,7 @@ use Rattle.es_outline.specs.declared.mark.Part.{Part}
 use Rattle.es_outline.specs.declared.mark.Part.TheVariants as part
 use Rattle.es_scope.specs.declared.kinds.DeclarationKind.{DeclarationKind}
 use Rattle.es_scope.specs.declared.kinds.DeclarationKind.TheVariants as kind
-use Rattle.es_scope.specs.Parts.{NearestPart}
+use Rattle.es_scope.specs.Parts.{IsDirectlyIn, NearestPart}
 use Rattle.es_scope.specs.Source.{Source, IsMark, HasRole, spelled_at}
 
 -- what a BindingIdentifier may be bound by: a declaration, as a parameter, or by `catch`
@@ -44,16 +44,12 @@ pub data IsDeclared (source : Source) (place : ℕ) : DeclarationKind → Type 0
   class : HasRole source place is.ClassName → IsDeclared source place kind.Class
   imported : (role : Role) → is_import role ≡ true → HasRole source place role → IsDeclared source place kind.Import
 
-abbrev pub is_export_list : Part → Bool
-is_export_list part.ExportList = true
-is_export_list _ = false
-
 -- the export list at the place has a request: its first names are those of another module
 pub record ExportsFrom (source : Source) (place : ℕ) : Type 0 where
   pub opening : ℕ
   pub request : ℕ
-  pub here : NearestPart is_export_list source.marks place part.ExportList opening
-  pub there : NearestPart is_export_list source.marks request part.ExportList opening
+  pub here : IsDirectlyIn source.marks place part.ExportList opening
+  pub there : IsDirectlyIn source.marks request part.ExportList opening
   pub is_request : HasRole source request is.Request
 
 -- a name of this module stands at the place

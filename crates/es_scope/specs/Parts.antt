@@ -34,3 +34,7 @@ pub record NearestPart (kinds : Part → Bool) (marks : Marks) (place : ℕ) (wh
   pub kind : kinds which ≡ true
   pub encloses : Encloses marks which opening place
   pub nearest : (other : Part) (further : ℕ) → kinds other ≡ true → Encloses marks other further place → further ≤ opening
+
+-- the part is the innermost of all that enclose the place
+abbrev pub IsDirectlyIn : Marks → ℕ → Part → ℕ → Type 0
+IsDirectlyIn marks place which opening = NearestPart (λ any. true) marks place which opening
