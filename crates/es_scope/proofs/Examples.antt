@@ -20,21 +20,7 @@ use Rattle.es_scope.specs.Scopes.{StandsIn, BelongsTo, Declares, is_scope}
 use Rattle.es_scope.specs.Refers.{Refers}
 use Rattle.es_scope.specs.Around.{IsParenthesised, IsCalled}
 use Rattle.es_scope.specs.Occurrences.{UpdatedFrom, IsUpdated}
-
--- what is declared is a token
-declared_token : {source : Source} {place : ℕ} {how : DeclarationKind} → IsDeclared source place how → (role : Role) × HasRole source place role
-declared_token (IsDeclared.by_word how opening t b w) = (is.Bound, t)
-declared_token (IsDeclared.parameter opening t b) = (is.Bound, t)
-declared_token (IsDeclared.arrow_parameter opening t b) = (is.Bound, t)
-declared_token (IsDeclared.caught opening t b) = (is.Bound, t)
-declared_token (IsDeclared.function t) = (is.FunctionName, t)
-declared_token (IsDeclared.class t) = (is.ClassName, t)
-declared_token (IsDeclared.imported role r t) = (role, t)
-
-belonging_token : {source : Source} {place scope : ℕ} → BelongsTo source place scope → (role : Role) × HasRole source place role
-belonging_token (BelongsTo.var scope d n) = declared_token d
-belonging_token (BelongsTo.other how scope d h n) = declared_token d
-belonging_token (BelongsTo.own_class t) = (is.ClassName, t)
+use Rattle.es_scope.proofs.Agreeing.{belonging_token}
 
 abbrev token : ℕ → ℕ → Token
 token start end = record { kind = token_kind.IdName; newline = false; start = start; end = end }
@@ -116,7 +102,7 @@ function_behind zero h = absurd (subst IsNoFunction h tt)
 function_behind (suc n) h = omega arith
 
 first_at : (name : List ℕ) (place : ℕ) → Declares arrow 1 name place → 1 ≤ place
-first_at name _ (Declares.named p b s) = token_behind p (belonging_token b)
+first_at name _ (Declares.named p b s) = token_behind p (belonging_token arrow p 1 b)
 first_at name _ (Declares.by_function p h e f) = function_behind p h
 
 -- the second `a` refers to the first

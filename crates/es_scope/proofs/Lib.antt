@@ -1,1 +1,6 @@
 pub mod Examples
+pub mod Enclosing
+pub mod Nearest
+pub mod OpenFrames
+pub mod Agreeing
+pub mod LookingUp
