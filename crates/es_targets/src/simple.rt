@@ -9,7 +9,7 @@ ghost use Rattle.es_nest.specs.Ties.{Ties};
 use crate::bare::{trace_bare, try_bare};
 use crate::parens::trace_paren_target;
 use es_begins::{begins_pattern, begins_suffix};
-use es_cursor::Cursor;
+use es_cursor::{Attempt, Cursor, Passed};
 use es_grammar::{Context, Stop};
 use es_nest::Knot;
 use es_outline::Outline;
@@ -73,7 +73,7 @@ fn pattern_alone<K: Fn(&mut Cursor, &mut Outline, Rule, Context, u32) -> Result<
 }
 
 // The same where something else may stand there: then the outline is as it was.
-fn try_pattern_alone<
+fn pattern_or_back<
     K: Fn(&mut Cursor, &mut Outline, Rule, Context, u32) -> Result<Stop, ParseFault>,
 >(
     cursor: &mut Cursor,
@@ -101,6 +101,44 @@ fn try_pattern_alone<
             outline.undo(before);
             Err(fault)
         }
+    }
+}
+
+// The same, remembered where it was tried in vain.
+fn try_pattern_alone<
+    K: Fn(&mut Cursor, &mut Outline, Rule, Context, u32) -> Result<Stop, ParseFault>,
+>(
+    cursor: &mut Cursor,
+    outline: &mut Outline,
+    knot: &Knot<K>,
+    c: Context,
+    at: u32,
+) -> Result<u32, ParseFault>
+    requires stands { Stands cursor.old at }
+    requires ties { Ties (K.pre knot.now.call.now) (K.post knot.now.call.now) knot.now.nest }
+    ensures traces { Traces (spec.pattern_alone cursor.old (tracers_to cursor.old knot.now.nest) c
+        outline.old.marks at) outline.new.marks result }
+    ensures within { IfOk result (λ end. end ≤ length cursor.old) }
+    ensures same { cursor.new ≡ cursor.old }
+    ensures kept { outline.new.kept ≡ outline.old.kept }
+    ensures back { OnErr result (outline.new.marks ≡ outline.old.marks) }
+{
+    let passed = Passed {
+        attempt: Attempt::Pattern,
+        nest: knot.nest,
+        context: c,
+        at,
+    };
+    if cursor.has_passed(passed) {
+        return Err(ParseFault::Syntax);
+    }
+    match pattern_or_back(cursor, outline, knot, c, at) {
+        Ok(end) => Ok(end),
+        Err(ParseFault::Syntax) => {
+            cursor.pass(passed)?;
+            Err(ParseFault::Syntax)
+        }
+        Err(fault) => Err(fault),
     }
 }
 
