@@ -40,9 +40,7 @@ pub fn trace_bare<K: Fn(&mut Cursor, &mut Outline, Rule, Context, u32) -> Result
 }
 
 // The same where something else may stand there: then the outline is as it was.
-fn bare_or_back<
-    K: Fn(&mut Cursor, &mut Outline, Rule, Context, u32) -> Result<Stop, ParseFault>,
->(
+fn bare_or_back<K: Fn(&mut Cursor, &mut Outline, Rule, Context, u32) -> Result<Stop, ParseFault>>(
     cursor: &mut Cursor,
     outline: &mut Outline,
     knot: &Knot<K>,

@@ -36,12 +36,7 @@ fn written(alloc: Global, line: &str) -> Result<Vec<u8>, AllocError> {
 }
 
 // Whether a text has a tree at a goal; `?` where memory ran out.
-fn answer<L: Ledger>(
-    alloc: Global,
-    text: &[u8],
-    goal: ProgramGoal,
-    steps: &mut Steps<L>,
-) -> char
+fn answer<L: Ledger>(alloc: Global, text: &[u8], goal: ProgramGoal, steps: &mut Steps<L>) -> char
     requires short { length text.now < 2 ^ 32 }
 {
     match parse(alloc, text, goal, steps) {
