@@ -82,13 +82,13 @@ module _ (graph : Graph) (number : ℕ) (row : Row) (exported : List ℕ) where
   space_passes (passing.Stars stars) is request = (λ none. absurd none, λ o. no_origin (Space request) is.0 o)
 
   module _ (fits : RowFits graph row) where
-    export_within : (origin : Origin) (request : ℕ) → origin_of row.facts exported ≡ Some origin → origin_requests origin ≡ request ∷ [] → request < length row.facts.requests
+    pub export_within : (origin : Origin) (request : ℕ) → origin_of row.facts exported ≡ Some origin → origin_requests origin ≡ request ∷ [] → request < length row.facts.requests
     export_within origin request o are =
         let x = export_of row.facts exported origin o in
         All-head (λ place. place < length row.facts.requests) request [] (subst (ArePlacesIn row.facts.requests) (ap origin_requests x.2 ∙ are)
         (All-contains (λ entry. ArePlacesIn row.facts.requests (origin_requests entry.origin)) row.facts.exports x.0 fits.facts.places.export_requests x.1))
 
-    name_within : (request : ℕ) (name : List ℕ) → PassesOn graph number row exported request name → request < length row.facts.requests
+    pub name_within : (request : ℕ) (name : List ℕ) → PassesOn graph number row exported request name → request < length row.facts.requests
     name_within _ _ (PassesOn.by_name request name o) = export_within (Other request name) request o refl
     name_within _ _ (PassesOn.by_star star f) = All-contains (λ place. place < length row.facts.requests) row.facts.stars star fits.facts.places.stars f.among
 
