@@ -31,7 +31,6 @@ pub enum Piece {
 }
 
 // What is traced of a piece at a place, with the place where it ends.
-#[tactic(auto, unfolding(es_parser::specs::Pieces::traced_piece))]
 fn trace_piece(
     alloc: Global,
     bytes: &[u8],
