@@ -1,8 +1,5 @@
-use Rattle.es_outline.specs.Outline.{item_marks}
-use Rattle.es_trace.proofs.Functions.{closed_item_laid}
-use Rattle.es_trace.proofs.Tying.{tracing_law}
-use Rattle.es_parser.proofs.Alone.{read_as}
+use Rattle.es_parser.proofs.Alone.{item_read}
 use Rattle.es_parser.proofs.pieces.parse_item.Goals as goal
 
 pub returns : goal.returns
-returns c = read_as item_marks _ _ _ (closed_item_laid c.args.bytes.now (tracing_law c.args.bytes.now c.args.nest) c.args.c _ c.args.at) c.trace_piece.ensures
+returns c = item_read c.args.bytes.now c.args.nest c.args.c c.args.at _ c.trace_piece.ensures
