@@ -1,3 +1,2 @@
-mod Alone
 mod Levels
 mod Outlining

@@ -2,7 +2,6 @@
 use Rattle.std.specs.Prelude.{◌≡◌, ℕ, [], Option, Some, None, Result, Ok, Err}
 use Rattle.es_grammar.specs.declared.places.Context.{Context}
 use Rattle.es_grammar.specs.Reading.{Bytes}
-use Rattle.es_outline.specs.Outline.{Lays}
 use Rattle.es_outline.specs.Outlined.{Outlined}
 use Rattle.es_reader.specs.declared.ParseFault.{ParseFault}
 use Rattle.es_reader.specs.declared.ParseFault.TheVariants.{Syntax, NoMemory}
@@ -27,9 +26,3 @@ abbrev pub traced_piece : Bytes → ℕ → Piece → Context → ℕ → Traced
 traced_piece text nest piece.Expression c p = trace_closed_expr text (tracers_to text nest) c [] p
 traced_piece text nest piece.Item c p = trace_closed_item text (tracers_to text nest) c [] p
 traced_piece text nest piece.Default c p = trace_default text (tracers_to text nest) c [] p
-
--- the outline of what is read there and where that ends, or that nothing is read
-abbrev pub IsReadAs : {X : Type 0} → (X → Lays) → Option (X × ℕ) → Alone → Type 0
-IsReadAs {X} lays read (Ok made) = (part : X) × (read ≡ Some (part, made.1)) × (made.0.marks ≡ lays part [])
-IsReadAs lays read (Err Syntax) = read ≡ None
-IsReadAs lays read (Err NoMemory) = Unit {0}

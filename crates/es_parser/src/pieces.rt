@@ -1,14 +1,10 @@
 //! Parts of a text: an expression, an item, what `export default` takes.
 ghost use Rattle.std.specs.Prelude.{◌<◌, ◌^◌, ◌≤◌, ◌≡◌, length, IfOk};
-ghost use Rattle.es_outline.specs.Outline.{expr_marks, item_marks};
-ghost use Rattle.es_reader.specs.Expressions.{read_closed_expr};
-ghost use Rattle.es_reader.specs.Functions.{read_closed_item};
-ghost use Rattle.es_reader.specs.Modules.{read_default};
-ghost use Rattle.es_reader.specs.Tying.{readers_to};
 ghost use Rattle.es_trace.specs.Tying.{tracers_to};
 ghost use Rattle.es_cursor.specs.Standing.{Stands};
 ghost use Rattle.es_nest.specs.Ties.{Given};
-ghost use Rattle.es_parser.specs.Pieces.{IsReadAs, TracesAlone, traced_piece};
+ghost use Rattle.es_parser.specs.Pieces.{TracesAlone, traced_piece};
+ghost use Rattle.es_parser.specs.declared.pieces.Piece.TheVariants as part;
 
 use crate::knot::tie;
 use es_cursor::Cursor;
@@ -76,8 +72,7 @@ pub fn parse_expression(
 ) -> Result<(Outline, u32), ParseFault>
     requires short { length bytes.now < 2 ^ 32 }
     requires stands { Stands bytes.now at }
-    ensures read { IsReadAs expr_marks (read_closed_expr bytes.now (readers_to bytes.now nest) c at)
-        result }
+    ensures traced { TracesAlone (traced_piece bytes.now nest part.Expression c at) result }
 {
     trace_piece(alloc, bytes, at, c, nest, Piece::Expression)
 }
@@ -93,8 +88,7 @@ pub fn parse_item(
 ) -> Result<(Outline, u32), ParseFault>
     requires short { length bytes.now < 2 ^ 32 }
     requires stands { Stands bytes.now at }
-    ensures read { IsReadAs item_marks (read_closed_item bytes.now (readers_to bytes.now nest) c at)
-        result }
+    ensures traced { TracesAlone (traced_piece bytes.now nest part.Item c at) result }
 {
     trace_piece(alloc, bytes, at, c, nest, Piece::Item)
 }
@@ -110,8 +104,7 @@ pub fn parse_default(
 ) -> Result<(Outline, u32), ParseFault>
     requires short { length bytes.now < 2 ^ 32 }
     requires stands { Stands bytes.now at }
-    ensures read { IsReadAs item_marks (read_default bytes.now (readers_to bytes.now nest) c at)
-        result }
+    ensures traced { TracesAlone (traced_piece bytes.now nest part.Default c at) result }
 {
     trace_piece(alloc, bytes, at, c, nest, Piece::Default)
 }
