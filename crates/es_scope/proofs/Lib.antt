@@ -4,3 +4,16 @@ pub mod Nearest
 pub mod OpenFrames
 pub mod Agreeing
 pub mod LookingUp
+pub mod Basics
+pub mod Hoisting
+pub mod Claiming
+pub mod Noting
+pub mod Through
+pub mod FirstTwice
+pub mod Placing
+pub mod Numbering
+pub mod FirstPlaces
+pub mod FirstTold
+pub mod Following
+pub mod FoundTable
+pub mod ScopesTold

@@ -12,7 +12,7 @@ use Rattle.pk_types.specs.ExportedNames.{AreInByteOrder}
 use Rattle.es_scope.specs.Source.{Source, HasRole}
 use Rattle.es_scope.specs.Scopes.{Declares, BelongsTo}
 use Rattle.es_scope.specs.Refers.{IsFreeNamed}
-use Rattle.es_scope.specs.Known.{known_of}
+use Rattle.es_scope.specs.Known.{Known, known_of}
 use Rattle.es_scope.specs.Listed.{AreThose}
 use Rattle.es_scope.specs.Asking.{AsksFor, AsksFirst}
 use Rattle.es_scope.specs.Declaring.{IsImport, IsBinding, IsRequestOf}
@@ -24,17 +24,17 @@ kind_of Script = Cjs
 kind_of Module = Es
 
 -- the declaration at the place asks by the request of this number, and none before it does
-pub record IsOrdered (source : Source) (facts : Facts) (place number : ℕ) : Type 0 where
+pub record IsOrdered (source : Source) (requests : List Request) (place number : ℕ) : Type 0 where
   pub request : Request
-  pub has_number : slice_get facts.requests number ≡ Some request
+  pub has_number : slice_get requests number ≡ Some request
   pub is_request : HasRole source place is.Request
   pub asks : AsksFor source place request
   pub first : (other : ℕ) → HasRole source other is.Request → AsksFor source other request → place ≤ other
 
 -- the `export * from` at the place has the request of this number
-pub record IsStar (source : Source) (facts : Facts) (place number : ℕ) : Type 0 where
+pub record IsStar (source : Source) (known : Known) (place number : ℕ) : Type 0 where
   pub all : ExportsAll source place
-  pub request : IsRequestOf source (known_of facts) place number
+  pub request : IsRequestOf source known place number
 
 -- a free occurrence in the text has this name
 abbrev pub IsUsedFree : Source → List ℕ → Type 0
@@ -55,10 +55,10 @@ pub record IsInner (source : Source) (name : List ℕ) : Type 0 where
 pub record AreFacts (source : Source) (facts : Facts) : Type 0 where
   pub kind : facts.kind ≡ kind_of source.goal
   pub requests : AreThose (AsksFirst source) facts.requests
-  pub order : AreThose (IsOrdered source facts) facts.order
+  pub order : AreThose (IsOrdered source facts.requests) facts.order
   pub imports : AreThose (IsImport source (known_of facts)) facts.imports
   pub exports : AreThose (IsExport source (known_of facts)) facts.exports
-  pub stars : AreThose (IsStar source facts) facts.stars
+  pub stars : AreThose (IsStar source (known_of facts)) facts.stars
   pub bindings : AreThose (IsBinding source) facts.bindings
   pub sites : AreThose (IsSite source (known_of facts)) facts.sites
   pub free : (name : List ℕ) → Contains facts.free name ↔ IsUsedFree source name

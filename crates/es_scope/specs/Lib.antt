@@ -9,6 +9,8 @@ pub mod Named
 pub mod Firsts
 pub mod Found
 pub mod Claims
+pub mod Noting
+pub mod Telling
 pub mod Known
 pub mod Listed
 pub mod Asking

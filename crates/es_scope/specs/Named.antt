@@ -5,7 +5,8 @@ use Rattle.es_outline.specs.declared.mark.Mark.{Mark}
 use Rattle.es_outline.specs.declared.mark.Mark.TheVariants as mark
 use Rattle.es_outline.specs.declared.mark.Role.{Role}
 use Rattle.es_outline.specs.declared.mark.Role.TheVariants as is
-use Rattle.es_scope.specs.Source.{Source, name_at}
+use Rattle.es_tree.specs.Names.{name_of}
+use Rattle.es_scope.specs.Source.{Source, name_at, spelled_token, token_of}
 use Rattle.es_scope.specs.Scopes.{arguments}
 
 -- names that declare or refer
@@ -23,6 +24,14 @@ is_naming _ = false
 abbrev pub names_it : Option Mark → Bool
 names_it (Some (mark.Token role token)) = is_naming role
 names_it _ = false
+
+-- the number of the mark's name, if it has one
+abbrev pub IsNumberOf : Source → List (List ℕ) → Option Mark → ℕ → Type 0
+IsNumberOf source texts found number = names_it found ≡ true → place_of texts (name_of (spelled_token source.text (token_of found))) ≡ Some number
+
+-- numbers stay when texts come to them
+abbrev pub Keeps : List (List ℕ) → List (List ℕ) → Type 0
+Keeps texts more = (name : List ℕ) (number : ℕ) → place_of texts name ≡ Some number → place_of more name ≡ Some number
 
 -- each such name has its number at its place
 pub record AreNumbered (source : Source) (texts : List (List ℕ)) (numbers : List ℕ) : Type 0 where

@@ -1,5 +1,5 @@
 //! The parts that are open where the marks of an outline are gone through.
-ghost use Rattle.std.specs.Prelude.{◌≡◌, ◌<◌, ◌^◌, ◌+◌, [], OnOk};
+ghost use Rattle.std.specs.Prelude.{◌≡◌, ◌<◌, ◌^◌, ◌+◌, [], reverse, OnOk};
 ghost use Rattle.es_scope.specs.Frames as spec;
 
 use crate::frame::{Binder, Frame};
@@ -83,6 +83,13 @@ impl OpenParts {
                 binder: Binder::None,
             },
         }
+    }
+
+    /// The open parts, the innermost last.
+    pub fn frames(&self) -> &[Frame]
+        ensures { reverse result.now ≡ self.now }
+    {
+        self.frames.as_slice()
     }
 
     // Goes into a part that begins at the place.
