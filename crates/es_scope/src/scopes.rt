@@ -73,6 +73,13 @@ impl Scopes {
         self.twice
     }
 
+    /// How many names have numbers.
+    pub fn names_len(&self) -> usize
+        ensures { result ≡ length self.now.texts }
+    {
+        self.names.texts.len()
+    }
+
     /// The number of the name at a place; 0 at a mark that is no name.
     pub fn number_at(&self, place: u32) -> Option<u32>
         ensures { result ≡ slice_get self.now.numbers place }

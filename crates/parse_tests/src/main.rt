@@ -56,6 +56,24 @@ fn answers<L: Ledger>(alloc: Global, text: &[u8], steps: &mut Steps<L>) -> (char
     (script, module)
 }
 
+// Whether the answers for a line's text differ from what the line wants; if so, this is told.
+fn differs<L: Ledger>(
+    rt: &impl Print,
+    alloc: Global,
+    line: &str,
+    steps: &mut Steps<L>,
+) -> io::Result<bool> {
+    let (wanted, rest) = line.split_once(' ').unwrap_or((line, ""));
+    let text = written(alloc, rest)?;
+    let (script, module) = answers(alloc, text.as_slice(), steps);
+    let told = format!(in alloc; "{script}{module}")?;
+    if told.as_str() == wanted {
+        return Ok(false);
+    }
+    println!(rt; "{told} and not {wanted}: {rest}")?;
+    Ok(true)
+}
+
 // Goes through the table.
 fn go<L: Ledger>(rt: &HostRuntime, blank: Blank) -> io::Result<()>
     requires name { blank.name ≡ L.name }
@@ -72,17 +90,9 @@ fn go<L: Ledger>(rt: &HostRuntime, blank: Blank) -> io::Result<()>
         if line.starts_with('#') {
             continue;
         }
-        let Some((wanted, rest)) = line.split_once(' ') else {
-            println!(rt; "no text: {line}")?;
-            continue;
-        };
-        let text = written(alloc, rest)?;
-        let (script, module) = answers(alloc, text.as_slice(), &mut steps);
         texts = texts.wrapping_add(1);
-        let told = format!(in alloc; "{script}{module}")?;
-        if told.as_str() != wanted {
+        if differs(rt, alloc, line, &mut steps)? {
             differ = differ.wrapping_add(1);
-            println!(rt; "{told} and not {wanted}: {rest}")?;
         }
     }
     println!(rt; "{texts} texts, {differ} differ")
