@@ -1,0 +1,3 @@
+pub mod OpenFrames
+pub mod Following
+pub mod DeclaredBy
