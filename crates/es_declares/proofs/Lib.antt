@@ -1,0 +1,10 @@
+pub mod InsideLaws
+pub mod StandingLaws
+pub mod RequestLaws
+pub mod UnnamedLaws
+pub mod ImportLaws
+pub mod OwnLaws
+pub mod Listing
+pub mod GatheredLaws
+pub mod BoundLaws
+pub mod Joining

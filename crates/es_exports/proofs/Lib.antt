@@ -1,0 +1,16 @@
+pub mod Marks
+pub mod Facts
+pub mod Entries
+pub mod Requests
+pub mod Declared
+pub mod Naming
+pub mod Importing
+pub mod Referring
+pub mod Exporting
+pub mod Found
+pub mod Entering
+pub mod Listing
+pub mod Again
+pub mod Ending
+pub mod Stars
+pub mod Whole

@@ -1,0 +1,4 @@
+pub mod Around
+pub mod First
+pub mod Names
+pub mod Refusing

@@ -1,0 +1,10 @@
+pub mod MarkLaws
+pub mod Opened
+pub mod Listing
+pub mod InsideLaws
+pub mod MeantLaws
+pub mod AroundLaws
+pub mod GivenLaws
+pub mod DoneSound
+pub mod DoneWhole
+pub mod SiteLaws
