@@ -1,5 +1,7 @@
 //! Arrow functions.
-ghost use Rattle.std.specs.Prelude.{◌≡◌, ◌≤◌, length, IfOk, OnErr};
+ghost use Rattle.std.specs.Prelude.{◌≡◌, ◌≤◌, Some, length, IfOk, OnErr};
+ghost use Rattle.es_tree.specs.declared.tokens.Goal.TheVariants.{Operand as AtOperand};
+ghost use Rattle.es_reader.specs.Basics.{token as spec_token};
 ghost use Rattle.es_trace.specs.Basics.{Traces};
 ghost use Rattle.es_trace.specs.Operators as spec;
 ghost use Rattle.es_trace.specs.Tying.{tracers_to};
@@ -7,7 +9,7 @@ ghost use Rattle.es_cursor.specs.Standing.{Lies, Stands};
 ghost use Rattle.es_nest.specs.Ties.{Ties};
 
 use es_begins::{in_arrow, in_concise, is_arrow};
-use es_cursor::Cursor;
+use es_cursor::{Attempt, Cursor, Passed};
 use es_functions::{trace_body, trace_params};
 use es_grammar::{Context, Ending, Stop};
 use es_nest::Knot;
@@ -80,7 +82,7 @@ fn bracket_head<K: Fn(&mut Cursor, &mut Outline, Rule, Context, u32) -> Result<S
 }
 
 // The same where something else may stand there: then the outline is as it was.
-pub(crate) fn try_bracket_head<
+fn bracket_head_or_back<
     K: Fn(&mut Cursor, &mut Outline, Rule, Context, u32) -> Result<Stop, ParseFault>,
 >(
     cursor: &mut Cursor,
@@ -108,6 +110,46 @@ pub(crate) fn try_bracket_head<
             outline.undo(before);
             Err(fault)
         }
+    }
+}
+
+// The same, remembered where it was tried in vain.
+pub(crate) fn try_bracket_head<
+    K: Fn(&mut Cursor, &mut Outline, Rule, Context, u32) -> Result<Stop, ParseFault>,
+>(
+    cursor: &mut Cursor,
+    outline: &mut Outline,
+    knot: &Knot<K>,
+    c: Context,
+    at: u32,
+    left: Token,
+) -> Result<u32, ParseFault>
+    requires lies { Lies cursor.old left }
+    requires first { spec_token cursor.old AtOperand at ≡ Some left }
+    requires ties { Ties (K.pre knot.now.call.now) (K.post knot.now.call.now) knot.now.nest }
+    ensures traces { Traces (spec.bracket_head cursor.old (tracers_to cursor.old knot.now.nest) c
+        outline.old.marks left) outline.new.marks result }
+    ensures within { IfOk result (λ end. end ≤ length cursor.old) }
+    ensures same { cursor.new ≡ cursor.old }
+    ensures kept { outline.new.kept ≡ outline.old.kept }
+    ensures back { OnErr result (outline.new.marks ≡ outline.old.marks) }
+{
+    let passed = Passed {
+        attempt: Attempt::ListHead,
+        nest: knot.nest,
+        context: in_arrow(false, c),
+        at,
+    };
+    if cursor.has_passed(passed) {
+        return Err(ParseFault::Syntax);
+    }
+    match bracket_head_or_back(cursor, outline, knot, c, left) {
+        Ok(end) => Ok(end),
+        Err(ParseFault::Syntax) => {
+            cursor.pass(passed)?;
+            Err(ParseFault::Syntax)
+        }
+        Err(fault) => Err(fault),
     }
 }
 
@@ -146,7 +188,7 @@ fn async_head<K: Fn(&mut Cursor, &mut Outline, Rule, Context, u32) -> Result<Sto
 }
 
 // The same where something else may stand there: then the outline is as it was.
-pub(crate) fn try_async_head<
+fn async_head_or_back<
     K: Fn(&mut Cursor, &mut Outline, Rule, Context, u32) -> Result<Stop, ParseFault>,
 >(
     cursor: &mut Cursor,
@@ -174,6 +216,46 @@ pub(crate) fn try_async_head<
             outline.undo(before);
             Err(fault)
         }
+    }
+}
+
+// The same, remembered where it was tried in vain.
+pub(crate) fn try_async_head<
+    K: Fn(&mut Cursor, &mut Outline, Rule, Context, u32) -> Result<Stop, ParseFault>,
+>(
+    cursor: &mut Cursor,
+    outline: &mut Outline,
+    knot: &Knot<K>,
+    c: Context,
+    at: u32,
+    word: Token,
+) -> Result<u32, ParseFault>
+    requires lies { Lies cursor.old word }
+    requires first { spec_token cursor.old AtOperand at ≡ Some word }
+    requires ties { Ties (K.pre knot.now.call.now) (K.post knot.now.call.now) knot.now.nest }
+    ensures traces { Traces (spec.async_head cursor.old (tracers_to cursor.old knot.now.nest) c
+        outline.old.marks word) outline.new.marks result }
+    ensures within { IfOk result (λ end. end ≤ length cursor.old) }
+    ensures same { cursor.new ≡ cursor.old }
+    ensures kept { outline.new.kept ≡ outline.old.kept }
+    ensures back { OnErr result (outline.new.marks ≡ outline.old.marks) }
+{
+    let passed = Passed {
+        attempt: Attempt::AsyncHead,
+        nest: knot.nest,
+        context: c,
+        at,
+    };
+    if cursor.has_passed(passed) {
+        return Err(ParseFault::Syntax);
+    }
+    match async_head_or_back(cursor, outline, knot, c, word) {
+        Ok(end) => Ok(end),
+        Err(ParseFault::Syntax) => {
+            cursor.pass(passed)?;
+            Err(ParseFault::Syntax)
+        }
+        Err(fault) => Err(fault),
     }
 }
 

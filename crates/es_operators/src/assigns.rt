@@ -1,5 +1,7 @@
 //! Assignments, by their first token.
-ghost use Rattle.std.specs.Prelude.{◌≡◌, ◌≤◌, length, IfOk};
+ghost use Rattle.std.specs.Prelude.{◌≡◌, ◌≤◌, Some, length, IfOk};
+ghost use Rattle.es_tree.specs.declared.tokens.Goal.TheVariants.{Operand as AtOperand};
+ghost use Rattle.es_reader.specs.Basics.{token as spec_token};
 ghost use Rattle.es_trace.specs.Basics.{Traces};
 ghost use Rattle.es_trace.specs.Operators as spec;
 ghost use Rattle.es_trace.specs.Tying.{tracers_to};
@@ -30,6 +32,7 @@ fn named_assign<K: Fn(&mut Cursor, &mut Outline, Rule, Context, u32) -> Result<S
 ) -> Result<Stop, ParseFault>
     requires stands { Stands cursor.old at }
     requires lies { Lies cursor.old name }
+    requires first { spec_token cursor.old AtOperand at ≡ Some name }
     requires ties { Ties (K.pre knot.now.call.now) (K.post knot.now.call.now) knot.now.nest }
     ensures traces { Traces (spec.named_assign cursor.old (tracers_to cursor.old knot.now.nest) c
         outline.old.marks at name) outline.new.marks result }
@@ -47,7 +50,7 @@ fn named_assign<K: Fn(&mut Cursor, &mut Outline, Rule, Context, u32) -> Result<S
     if !cursor.is_word(b"async", name) {
         return plain_assign(cursor, outline, knot, c, at, name);
     }
-    match try_async_head(cursor, outline, knot, c, name) {
+    match try_async_head(cursor, outline, knot, c, at, name) {
         Ok(end) => arrow_body(cursor, outline, knot, c, true, end),
         Err(ParseFault::Syntax) => plain_assign(cursor, outline, knot, c, at, name),
         Err(fault) => Err(fault),
@@ -66,6 +69,7 @@ fn bracket_assign<K: Fn(&mut Cursor, &mut Outline, Rule, Context, u32) -> Result
 ) -> Result<Stop, ParseFault>
     requires stands { Stands cursor.old at }
     requires lies { Lies cursor.old left }
+    requires first { spec_token cursor.old AtOperand at ≡ Some left }
     requires ties { Ties (K.pre knot.now.call.now) (K.post knot.now.call.now) knot.now.nest }
     ensures traces { Traces (spec.bracket_assign cursor.old (tracers_to cursor.old knot.now.nest) c
         outline.old.marks at left) outline.new.marks result }
@@ -73,7 +77,7 @@ fn bracket_assign<K: Fn(&mut Cursor, &mut Outline, Rule, Context, u32) -> Result
     ensures same { cursor.new ≡ cursor.old }
     ensures kept { outline.new.kept ≡ outline.old.kept }
 {
-    match try_bracket_head(cursor, outline, knot, c, left) {
+    match try_bracket_head(cursor, outline, knot, c, at, left) {
         Ok(end) => arrow_body(cursor, outline, knot, c, false, end),
         Err(ParseFault::Syntax) => plain_assign(cursor, outline, knot, c, at, left),
         Err(fault) => Err(fault),

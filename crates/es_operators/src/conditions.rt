@@ -1,5 +1,7 @@
 //! Operands with operators between them, and what `?` chooses by them.
 ghost use Rattle.std.specs.Prelude.{◌≡◌, ◌≤◌, Some, length, IfOk};
+ghost use Rattle.es_tree.specs.declared.tokens.Goal.TheVariants.{Operand as AtOperand};
+ghost use Rattle.es_reader.specs.Basics.{token as spec_token};
 ghost use Rattle.es_trace.specs.Basics.{Traces};
 ghost use Rattle.es_trace.specs.Operators as spec;
 ghost use Rattle.es_trace.specs.Tying.{tracers_to};
@@ -30,6 +32,7 @@ fn listed_from<K: Fn(&mut Cursor, &mut Outline, Rule, Context, u32) -> Result<St
 ) -> Result<Stop, ParseFault>
     requires stands { Stands cursor.old at }
     requires lies { Lies cursor.old token }
+    requires first { spec_token cursor.old AtOperand at ≡ Some token }
     requires ties { Ties (K.pre knot.now.call.now) (K.post knot.now.call.now) knot.now.nest }
     ensures traces { Traces (spec.listed_from cursor.old (tracers_to cursor.old knot.now.nest) c
         outline.old.marks at token) outline.new.marks result }
@@ -226,6 +229,7 @@ pub(crate) fn cond_by<
 ) -> Result<Stop, ParseFault>
     requires stands { Stands cursor.old at }
     requires lies { Lies cursor.old token }
+    requires first { spec_token cursor.old AtOperand at ≡ Some token }
     requires ties { Ties (K.pre knot.now.call.now) (K.post knot.now.call.now) knot.now.nest }
     ensures traces { Traces (spec.cond_by cursor.old (tracers_to cursor.old knot.now.nest) c
         outline.old.marks at token) outline.new.marks result }

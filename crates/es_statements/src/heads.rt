@@ -5,11 +5,12 @@ ghost use Rattle.es_trace.specs.Statements as spec;
 ghost use Rattle.es_trace.specs.Tying.{tracers_to};
 ghost use Rattle.es_cursor.specs.Standing.{Lies, Stands};
 ghost use Rattle.es_nest.specs.Ties.{Ties};
+ghost use Rattle.es_statements.specs.Behind.{BehindFor, BehindParen};
 
 use crate::declarations::{decls_behind, trace_binding};
 use crate::loops::{for_each, for_loop, in_behind, of_behind};
 use es_begins::{is_declaration_word, without_in};
-use es_cursor::Cursor;
+use es_cursor::{Attempt, Cursor, Passed};
 use es_functions::trace_bind;
 use es_grammar::{Context, Stop};
 use es_nest::Knot;
@@ -145,9 +146,31 @@ fn init_expr<K: Fn(&mut Cursor, &mut Outline, Rule, Context, u32) -> Result<Stop
     Err(ParseFault::Syntax)
 }
 
-// An expression where `;` stands behind it, and otherwise a target.
-#[tactic(auto, unfolding(es_trace::specs::Statements::for_expr, es_trace::specs::Statements::for_target))]
-fn for_expr<K: Fn(&mut Cursor, &mut Outline, Rule, Context, u32) -> Result<Stop, ParseFault>>(
+// A target, and what is gone through.
+#[tactic(auto, unfolding(es_trace::specs::Statements::for_target))]
+fn for_target<K: Fn(&mut Cursor, &mut Outline, Rule, Context, u32) -> Result<Stop, ParseFault>>(
+    cursor: &mut Cursor,
+    outline: &mut Outline,
+    knot: &Knot<K>,
+    c: Context,
+    at: u32,
+) -> Result<u32, ParseFault>
+    requires stands { Stands cursor.old at }
+    requires ties { Ties (K.pre knot.now.call.now) (K.post knot.now.call.now) knot.now.nest }
+    ensures traces { Traces (spec.for_target cursor.old (tracers_to cursor.old knot.now.nest) c
+        outline.old.marks at) outline.new.marks result }
+    ensures within { IfOk result (λ end. end ≤ length cursor.old) }
+    ensures same { cursor.new ≡ cursor.old }
+    ensures kept { outline.new.kept ≡ outline.old.kept }
+{
+    let end = trace_target(cursor, outline, knot, without_in(c), at)?;
+    for_each(cursor, outline, knot, c, end)
+}
+
+// An expression where `;` stands behind it, read for the first time. Where none does, that is
+// remembered, the outline is taken back, and what stands there is read anew as a target.
+#[tactic(auto, unfolding(es_trace::specs::Statements::for_expr))]
+fn try_init<K: Fn(&mut Cursor, &mut Outline, Rule, Context, u32) -> Result<Stop, ParseFault>>(
     cursor: &mut Cursor,
     outline: &mut Outline,
     knot: &Knot<K>,
@@ -170,14 +193,48 @@ fn for_expr<K: Fn(&mut Cursor, &mut Outline, Rule, Context, u32) -> Result<Stop,
         }
         Err(ParseFault::Syntax) => {
             outline.undo(before);
-            let end = trace_target(cursor, outline, knot, without_in(c), at)?;
-            for_each(cursor, outline, knot, c, end)
+            cursor.pass(Passed {
+                attempt: Attempt::Init,
+                nest: knot.nest,
+                context: c,
+                at,
+            })?;
+            for_target(cursor, outline, knot, c, at)
         }
         Err(ParseFault::NoMemory) => {
             outline.undo(before);
             Err(ParseFault::NoMemory)
         }
     }
+}
+
+// An expression where `;` stands behind it, and otherwise a target.
+fn for_expr<K: Fn(&mut Cursor, &mut Outline, Rule, Context, u32) -> Result<Stop, ParseFault>>(
+    cursor: &mut Cursor,
+    outline: &mut Outline,
+    knot: &Knot<K>,
+    c: Context,
+    at: u32,
+) -> Result<u32, ParseFault>
+    requires stands { Stands cursor.old at }
+    requires behind { BehindParen outline.old.marks at }
+    requires ties { Ties (K.pre knot.now.call.now) (K.post knot.now.call.now) knot.now.nest }
+    ensures traces { Traces (spec.for_expr cursor.old (tracers_to cursor.old knot.now.nest) c
+        outline.old.marks at) outline.new.marks result }
+    ensures within { IfOk result (λ end. end ≤ length cursor.old) }
+    ensures same { cursor.new ≡ cursor.old }
+    ensures kept { outline.new.kept ≡ outline.old.kept }
+{
+    let passed = Passed {
+        attempt: Attempt::Init,
+        nest: knot.nest,
+        context: c,
+        at,
+    };
+    if cursor.has_passed(passed) {
+        return for_target(cursor, outline, knot, c, at);
+    }
+    try_init(cursor, outline, knot, c, at)
 }
 
 // `(`, which was seen, and what stands behind it.
@@ -190,6 +247,7 @@ fn for_paren<K: Fn(&mut Cursor, &mut Outline, Rule, Context, u32) -> Result<Stop
     left: Token,
 ) -> Result<u32, ParseFault>
     requires lies { Lies cursor.old left }
+    requires behind { BehindFor outline.old.marks }
     requires ties { Ties (K.pre knot.now.call.now) (K.post knot.now.call.now) knot.now.nest }
     ensures traces { Traces (spec.for_paren cursor.old (tracers_to cursor.old knot.now.nest) c
         outline.old.marks left) outline.new.marks result }
@@ -267,6 +325,7 @@ fn for_by<K: Fn(&mut Cursor, &mut Outline, Rule, Context, u32) -> Result<Stop, P
     token: Token,
 ) -> Result<u32, ParseFault>
     requires lies { Lies cursor.old token }
+    requires behind { BehindFor outline.old.marks }
     requires ties { Ties (K.pre knot.now.call.now) (K.post knot.now.call.now) knot.now.nest }
     ensures traces { Traces (spec.for_by cursor.old (tracers_to cursor.old knot.now.nest) c
         outline.old.marks token) outline.new.marks result }
