@@ -27,6 +27,48 @@ struct Token {
     newline: bool,
 }
 
+// What the bytes of ASCII are. A byte of no class, like those of longer characters, is looked at by itself.
+const START: u8 = 1;
+const PART: u8 = 2;
+const WHITE: u8 = 4;
+// Stands for itself in a comment, and in a string or a template: no line's end, no quote, no backslash, no `$`.
+const COMMENT: u8 = 8;
+const QUOTED: u8 = 16;
+
+const CLASSES: [u8; 256] = {
+    let mut classes = [0; 256];
+    let mut byte: usize = 0;
+    while byte < 128 {
+        let c = byte as u8;
+        if c.is_ascii_alphabetic() || c == b'$' || c == b'_' {
+            classes[byte] |= START | PART;
+        }
+        if c.is_ascii_digit() {
+            classes[byte] |= PART;
+        }
+        if matches!(c, b'\t' | 0x0b | 0x0c | b' ') {
+            classes[byte] |= WHITE;
+        }
+        if c != b'\n' && c != b'\r' && c != b'*' {
+            classes[byte] |= COMMENT;
+        }
+        if !matches!(c, b'\n' | b'\r' | b'\'' | b'"' | b'`' | b'\\' | b'$') {
+            classes[byte] |= QUOTED;
+        }
+        byte += 1;
+    }
+    classes
+};
+
+// Where bytes of the class that begin at a place end.
+fn run(text: &[u8], at: usize, class: u8) -> usize {
+    let mut i = at;
+    while i < text.len() && CLASSES[text[i] as usize] & class != 0 {
+        i += 1;
+    }
+    i
+}
+
 // The character at a place, if its bytes are UTF-8.
 fn character(text: &[u8], at: usize) -> Option<(char, usize)> {
     let a = *text.get(at)?;
@@ -89,11 +131,24 @@ fn name_unit(text: &[u8], at: usize, p: impl Fn(char) -> bool) -> Option<usize> 
 }
 
 fn name(text: &[u8], at: usize) -> Option<usize> {
-    let mut end = name_unit(text, at, is_start)?;
-    while let Some(next) = name_unit(text, end, is_part) {
-        end = next;
+    let first = *text.get(at)?;
+    let mut end = if CLASSES[first as usize] & START != 0 {
+        at + 1
+    } else if first < 0x80 && first != b'\\' {
+        return None;
+    } else {
+        name_unit(text, at, is_start)?
+    };
+    loop {
+        end = run(text, end, PART);
+        match text.get(end) {
+            Some(c) if *c >= 0x80 || *c == b'\\' => match name_unit(text, end, is_part) {
+                Some(next) => end = next,
+                None => return Some(end),
+            },
+            _ => return Some(end),
+        }
     }
-    Some(end)
 }
 
 fn is_digit(text: &[u8], at: usize, radix: u32) -> bool {
@@ -169,6 +224,7 @@ fn string(text: &[u8], at: usize) -> Option<usize> {
     let quote = text[at];
     let mut i = at + 1;
     loop {
+        i = run(text, i, QUOTED);
         match *text.get(i)? {
             c if c == quote => return Some(i + 1),
             b'\n' | b'\r' => return None,
@@ -181,6 +237,7 @@ fn string(text: &[u8], at: usize) -> Option<usize> {
 fn template(text: &[u8], at: usize) -> Option<usize> {
     let mut i = at + 1;
     loop {
+        i = run(text, i, QUOTED);
         match *text.get(i)? {
             b'`' => return Some(i + 1),
             b'$' if text.get(i + 1) == Some(&b'{') => return Some(i + 2),
@@ -243,26 +300,45 @@ fn gap(text: &[u8], at: usize) -> (usize, bool) {
     let mut i = at;
     let mut newline = false;
     loop {
-        if let Some((c, size)) = character(text, i) {
-            if is_terminator(c) {
-                newline = true;
-                i += size;
-                continue;
+        i = run(text, i, WHITE);
+        let Some(c) = text.get(i) else {
+            return (i, newline);
+        };
+        if *c == b'\n' || *c == b'\r' {
+            newline = true;
+            i += 1;
+            continue;
+        }
+        if *c >= 0x80 {
+            match character(text, i) {
+                Some((c, size)) if is_terminator(c) || is_white(c) => {
+                    newline |= is_terminator(c);
+                    i += size;
+                    continue;
+                }
+                _ => return (i, newline),
             }
-            if is_white(c) {
-                i += size;
-                continue;
-            }
+        }
+        if *c != b'/' {
+            return (i, newline);
         }
         if text[i..].starts_with(b"//") {
             i += 2;
-            while let Some(next) = of_line(text, i) {
-                i = next;
+            loop {
+                i = run(text, i, COMMENT);
+                match of_line(text, i) {
+                    Some(next) => i = next,
+                    None => break,
+                }
             }
         } else if text[i..].starts_with(b"/*") {
             let mut j = i + 2;
             let mut passed = false;
-            while !text[j..].starts_with(b"*/") {
+            loop {
+                j = run(text, j, COMMENT);
+                if text[j..].starts_with(b"*/") {
+                    break;
+                }
                 let Some((c, size)) = character(text, j) else {
                     return (i, newline);
                 };
