@@ -1,0 +1,4 @@
+pub mod FirstErrors
+pub mod Judging
+pub mod ByName
+pub mod Judged

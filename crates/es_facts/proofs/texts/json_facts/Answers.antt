@@ -1,0 +1,14 @@
+use Rattle.std.proofs.Common.{Ok, None, sym, subst}
+use Rattle.pk_types.specs.declared.facts.NameKind.TheVariants as name
+use Rattle.es_facts.specs.Answer.{TellsJson, HasFacts, HasFault}
+use Rattle.es_facts.proofs.texts.json_facts.Goals as goal
+
+pub returns-then-not-branch : goal.returns-then-not-branch
+returns-then-not-branch c =
+    HasFault.bad_json (subst (λ is. TellsJson c.args.bytes.now (Ok is)) c.if-not-branch.true c.in_ok-is_json.ensures)
+
+pub returns : goal.returns
+returns c =
+    let text = c.args.bytes.now in
+    let json = subst (λ is. TellsJson text (Ok is)) c.if-not-branch.false c.in_ok-is_json.ensures in
+    subst (λ facts. HasFacts text name.Json facts None) (sym c.none.ensures.empty) (HasFacts.json json)
