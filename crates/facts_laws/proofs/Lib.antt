@@ -1,0 +1,17 @@
+pub mod Listing
+pub mod Marks
+pub mod Bindings
+pub mod Exports
+pub mod Requests
+pub mod Sites
+pub mod Places
+pub mod Short
+pub mod Modules
+pub mod Plain
+pub mod Keeping
+pub mod Kept
+pub mod StatementLevels
+pub mod PatternLevels
+pub mod ExpressionLevels
+pub mod Scripts
+pub mod Whole
