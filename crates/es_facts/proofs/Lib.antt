@@ -2,3 +2,4 @@ pub mod FirstErrors
 pub mod Judging
 pub mod ByName
 pub mod Judged
+pub mod Fitting

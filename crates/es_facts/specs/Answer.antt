@@ -11,6 +11,7 @@ use Rattle.pk_types.specs.declared.facts.Facts.{Facts}
 use Rattle.pk_types.specs.declared.facts.Kind.TheVariants as kind
 use Rattle.pk_types.specs.declared.facts.NameKind.{NameKind}
 use Rattle.pk_types.specs.declared.facts.NameKind.TheVariants as name
+use Rattle.pk_types.specs.Fitting.{AreFitting}
 use Rattle.pk_types.specs.NoFacts.{no_facts}
 use Rattle.pkg_manifest.specs.declared.value.Json.{Json}
 use Rattle.pkg_manifest.specs.declared.fault.ManifestFault.{ManifestFault}
@@ -129,6 +130,16 @@ AnswersGoal text goal (Err one_fault) = FaultOr (HasGoalFault text goal) one_fau
 abbrev pub is_treeless : Result (Option Parsed) ModuleFault → Bool
 is_treeless (Ok None) = true
 is_treeless _ = false
+
+-- the facts of the answer, if there are any, fit
+abbrev pub FitParsed : Result Parsed ModuleFault → Type 0
+FitParsed (Ok parsed) = AreFitting parsed.facts
+FitParsed (Err one_fault) = Unit {0}
+
+abbrev pub FitGoal : Result (Option Parsed) ModuleFault → Type 0
+FitGoal (Ok (Some parsed)) = AreFitting parsed.facts
+FitGoal (Ok None) = Unit {0}
+FitGoal (Err one_fault) = Unit {0}
 
 -- that there is no tree is the fault
 abbrev pub or_syntax : Result (Option Parsed) ModuleFault → Result Parsed ModuleFault

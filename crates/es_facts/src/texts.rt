@@ -1,11 +1,13 @@
 //! The facts of a text by the kind of its name.
-ghost use Rattle.std.specs.Prelude.{◌≡◌, ◌≢◌, ◌<◌, ◌^◌, ◌+◌, true, false, length};
+ghost use Rattle.std.specs.Prelude.{◌≡◌, ◌≢◌, ◌<◌, ◌^◌, ◌+◌, true, false, length, IfOk};
 ghost use Rattle.std.specs.Str.{IsUtf8};
+ghost use Rattle.es_trace.specs.Trees.{IsOutlineOf};
+ghost use Rattle.pk_types.specs.Fitting.{AreFitting};
 ghost use Rattle.es_facts.specs.Answer as spec;
 
 use crate::answer::{ModuleFault, Parsed};
 use crate::gathering::facts_of;
-use es_outline::Outline;
+use es_outline::{Mark, Outline};
 use es_parser::parse;
 use es_reader::ParseFault;
 use es_scope::Outlined;
@@ -40,7 +42,8 @@ fn is_json(alloc: Global, bytes: &[u8]) -> Result<bool, ModuleFault>
 
 // The facts of a JSON module: none, if the text is JSON.
 fn json_facts(alloc: Global, bytes: &[u8]) -> Result<Parsed, ModuleFault>
-    ensures { spec.Answers bytes.now NameKind.Json result }
+    ensures answer { spec.Answers bytes.now NameKind.Json result }
+    ensures fit { spec.FitParsed result }
 {
     if !is_json(alloc, bytes)? {
         return Err(ModuleFault::BadJson);
@@ -69,6 +72,21 @@ fn outline_at<L: Ledger>(
     }
 }
 
+// The facts of a text that has these marks at a goal.
+fn marked_facts(
+    alloc: Global,
+    bytes: &[u8],
+    goal: ProgramGoal,
+    marks: &[Mark],
+) -> Result<Facts, ModuleFault>
+    requires short { length marks.now + 2 < 2 ^ 32 }
+    requires outlined { IsOutlineOf bytes.now goal marks.now }
+    ensures answer { spec.AnswersAt (spec.source_of bytes.now goal marks.now) result }
+    ensures fit { IfOk result AreFitting }
+{
+    facts_of(alloc, &Outlined::new(bytes, goal, marks))
+}
+
 // The facts of a text that has this outline at a goal.
 fn facts_at(
     alloc: Global,
@@ -76,13 +94,15 @@ fn facts_at(
     goal: ProgramGoal,
     outline: Outline,
 ) -> Result<Parsed, ModuleFault>
-    ensures { spec.AnswersMarks bytes.now goal outline result }
+    requires outlined { IsOutlineOf bytes.now goal outline.marks }
+    ensures answer { spec.AnswersMarks bytes.now goal outline result }
+    ensures fit { spec.FitParsed result }
 {
     // An outline of 2^32 marks would take 64 GiB.
     if outline.marks().len() >= MAX_MARKS {
         return Err(ModuleFault::NoMemory);
     }
-    let facts = facts_of(alloc, &Outlined::new(bytes, goal, outline.marks()))?;
+    let facts = marked_facts(alloc, bytes, goal, outline.marks())?;
     Ok(Parsed {
         facts,
         outline: Some(outline),
@@ -98,6 +118,7 @@ fn at_goal<L: Ledger>(
 ) -> Result<Option<Parsed>, ModuleFault>
     requires short { length bytes.now < 2 ^ 32 }
     ensures answer { spec.AnswersGoal bytes.now goal result }
+    ensures fit { spec.FitGoal result }
     ensures steps { steps.new ≡ steps.old + (length bytes.now + 1) }
 {
     match outline_at(alloc, bytes, goal, steps)? {
@@ -133,6 +154,7 @@ fn of_module<L: Ledger>(
     requires short { length bytes.now < 2 ^ 32 }
     requires utf8 { IsUtf8 bytes.now }
     ensures answer { spec.Answers bytes.now NameKind.Module result }
+    ensures fit { spec.FitParsed result }
     ensures steps { steps.new ≡ steps.old + (length bytes.now + 1) }
 {
     or_syntax(at_goal(alloc, bytes, ProgramGoal::Module, steps))
@@ -147,6 +169,7 @@ fn of_script<L: Ledger>(
     requires short { length bytes.now < 2 ^ 32 }
     requires utf8 { IsUtf8 bytes.now }
     ensures answer { spec.Answers bytes.now NameKind.Common result }
+    ensures fit { spec.FitParsed result }
     ensures steps { steps.new ≡ steps.old + (length bytes.now + 1) }
 {
     or_syntax(at_goal(alloc, bytes, ProgramGoal::Script, steps))
@@ -161,6 +184,7 @@ fn of_either<L: Ledger>(
     requires short { length bytes.now < 2 ^ 32 }
     requires utf8 { IsUtf8 bytes.now }
     ensures answer { spec.Answers bytes.now NameKind.Either result }
+    ensures fit { spec.FitParsed result }
     ensures steps { spec.TakesOnceOrTwice bytes.now steps.old steps.new }
 {
     let script = at_goal(alloc, bytes, ProgramGoal::Script, steps);
@@ -188,6 +212,7 @@ fn program_facts<L: Ledger>(
     requires short { length bytes.now < 2 ^ 32 }
     requires program { name ≢ NameKind.Json }
     ensures answer { spec.Answers bytes.now name result }
+    ensures fit { spec.FitParsed result }
     ensures steps { spec.TakesProgramSteps bytes.now name steps.old steps.new }
 {
     if !is_utf8(bytes) {
@@ -211,6 +236,7 @@ pub fn facts<L: Ledger>(
 ) -> Result<Parsed, ModuleFault>
     requires short { length bytes.now < 2 ^ 32 }
     ensures answer { spec.Answers bytes.now name result }
+    ensures fit { spec.FitParsed result }
     ensures steps { spec.TakesSteps bytes.now name steps.old steps.new }
 {
     if name == NameKind::Json {
