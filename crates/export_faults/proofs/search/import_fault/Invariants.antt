@@ -1,0 +1,11 @@
+-- the first fault of the imports so far
+use Rattle.std.proofs.Common.{◌≡◌, ℕ, ◌<◌}
+use Rattle.export_faults.specs.declared.fault.Asker.TheVariants.{Import}
+use Rattle.export_faults.specs.Faults.{AreLeast, StandsIn}
+use Rattle.export_faults.proofs.search.import_fault.Given as goal
+
+abbrev pub invariant-loop-number : goal.invariant-loop-number
+invariant-loop-number l = record {
+  graph : l.resolver ≡ l.fn.resolver;
+  first : AreLeast (λ fault. StandsIn l.fn.resolver l.module fault × ((place : ℕ) × (place < l.number) × (fault.asker ≡ Import place))) l.first;
+}

@@ -1,0 +1,4 @@
+pub mod Questions
+pub mod Asking
+pub mod Order
+pub mod Faults
