@@ -43,14 +43,11 @@ pub root_within : (roots : List ℕ) (root : ℕ) → root < length roots → sl
 root_within roots root inside itself =
     filtered (λ member. slice_index roots member == root) (range_with_len 0 (length roots)) root (in_range 0 (length roots) root (omega arith) (omega arith)) (eq-eqb (slice_index roots root) root itself)
 
--- a set of one is its root alone
-pub only_root : (roots : List ℕ) (root : ℕ) → root < length roots → slice_index roots root ≡ root → length (set_of roots root) ≡ 1 → set_of roots root ≡ root ∷ []
-only_root roots root inside itself one = by (set_of roots root) one (root_within roots root inside itself)
-  where
-    by : (members : List ℕ) → length members ≡ 1 → Contains members root → members ≡ root ∷ []
-    by [] none c = absurd (omega arith)
-    by (member ∷ []) single (k, h, at) = let first : 0 ≡ k = omega arith in ap (λ m. m ∷ []) (subst (λ p. get_or (member ∷ []) p root ≡ root) (sym first) at)
-    by (member ∷ other ∷ rest) two c = absurd (omega arith)
+-- a set of one is its first module alone
+pub only_first : (members : List ℕ) → length members ≡ 1 → members ≡ get_or members 0 0 ∷ []
+only_first [] none = absurd (omega arith)
+only_first (member ∷ []) single = refl
+only_first (member ∷ other ∷ rest) two = absurd (omega arith)
 
 -- what a module that stands alone is given
 pub alone : (graph : Graph) (members : List ℕ) (given : List (List (List ℕ))) (root : ℕ) → members ≡ root ∷ [] → given ≡ map (own_names graph) (root ∷ [])

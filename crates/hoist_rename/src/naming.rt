@@ -1,5 +1,5 @@
 ghost use Rattle.std.specs.Prelude.{◌≡◌, ◌≢◌, ℕ, ◌^◌, List, [], ◌∷◌, ◌<◌, length, map, flat_map, slice_index, AllPairs, IfOk};
-ghost use Rattle.std.specs.List.{Contains};
+ghost use Rattle.std.specs.List.{All, Contains};
 ghost use Rattle.pk_types.specs.Fitting.{Fits};
 ghost use Rattle.pk_types.specs.GivenNames.{own_names, avoided_names, GivesNames};
 ghost use Rattle.pk_types.specs.HoistSets.{set_of};
@@ -46,6 +46,23 @@ fn own(alloc: Global, graph: &Graph, member: u32) -> Result<Vec<Sequence<Name>>,
     Ok(lists)
 }
 
+/// The names of the bindings of modules that share a scope: for each module a list, with a name for each binding. The
+/// modules stand by number.
+pub fn names_of_set(
+    alloc: Global,
+    graph: &Graph,
+    members: &[u32],
+) -> Result<Vec<Sequence<Name>>, AllocError>
+    requires { All (λ member. member < length graph.now.rows) members.now }
+    ensures { IfOk result (λ names. GivesNames graph.now members.now names.items) }
+{
+    if members.len() == 1 {
+        own(alloc, graph, members[0])
+    } else {
+        shared_names(alloc, graph, members)
+    }
+}
+
 /// The names of the bindings of the modules that share the scope of a root: for each module, by number, a list, with a name for
 /// each binding.
 pub fn names_for(
@@ -69,9 +86,5 @@ pub fn names_for(
         → (member : ℕ) → Contains (set_of hoists.now.root root) member → ¬ Contains (avoided_names graph.now member) name) }
 {
     let members = members(alloc, hoists.root.as_slice(), root)?;
-    if members.len() == 1 {
-        own(alloc, graph, root)
-    } else {
-        shared_names(alloc, graph, members.as_slice())
-    }
+    names_of_set(alloc, graph, members.as_slice())
 }
