@@ -1,0 +1,4 @@
+pub mod Sets
+pub mod PutNames
+pub mod Steps
+pub mod Entries

@@ -1,0 +1,4 @@
+pub mod Names
+pub mod Outlines
+pub mod Texts
+pub mod Files

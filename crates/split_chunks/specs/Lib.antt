@@ -1,0 +1,10 @@
+pub mod GroupChunks
+pub mod Marked
+pub mod States
+pub mod Homes
+pub mod Scenes
+pub mod Choices
+pub mod Gathering
+pub mod Turns
+pub mod Picking
+pub mod Numbering
