@@ -80,7 +80,7 @@ pub fn plan(alloc: Global, graph: &Graph, config: &Config) -> Result<Plan, PlanF
     ensures fault { IfErr result (IsFaultOf graph.now config.now) }
 {
     if let Some(fault) = first_fault(alloc, graph)? {
-        return planned(alloc, graph, config);
+        return Err(PlanFault::Export(fault));
     }
     planned(alloc, graph, config)
 }

@@ -47,8 +47,10 @@ pub fn fault_of(
     question: Option<Question<'_>>,
 ) -> Result<Option<ExportFault>, AllocError>
     requires module { «module» < length resolver.old.rows }
-    requires asks { (row : Row) → slice_get resolver.old.rows «module» ≡ Some row → option_map asked «question» ≡ question_of row «asker» }
-    requires request { (row : Row) → slice_get resolver.old.rows «module» ≡ Some row → IfSome «question» (λ question. question.request < length row.targets) }
+    requires asks { (row : Row) → slice_get resolver.old.rows «module» ≡ Some row
+        → option_map asked «question» ≡ question_of row «asker» }
+    requires request { (row : Row) → slice_get resolver.old.rows «module» ≡ Some row
+        → IfSome «question» (λ question. question.request < length row.targets) }
     ensures fault { IfOk result (AreLeast (StandsAt resolver.old «module» «asker»)) }
     ensures same { resolver.new ≡ resolver.old }
 {
