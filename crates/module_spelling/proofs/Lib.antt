@@ -1,0 +1,2 @@
+pub mod FoundFits
+pub mod AtSite
