@@ -2,7 +2,8 @@
 """Prints rows of crates/parse_tests/stdin: each construct that counts for the nest, at the greatest nest that is read and one more.
 
 A row has what is repeated before, what stands in the middle, what is repeated behind, how much the nest is without a repetition,
-and how much each one adds. `docs/GRAMMAR.md` says what counts.
+and how much each one adds. `docs/GRAMMAR.md` says what counts. Where each adds more than one, blocks around the text make up what
+is left, one for each.
 """
 MAX_NEST = 256
 
@@ -82,13 +83,19 @@ ROWS = [
 ]
 
 
+def text_of(row, nest):
+    """A text of a row with exactly this nest."""
+    before, opening, middle, closing, behind, without, each, _ = row
+    count, blocks = divmod(nest - without, each)
+    text = before + opening * count + middle + closing * count + behind
+    return "{" * blocks + text + "}" * blocks
+
+
 def main():
-    print("# the nest: each construct that counts, at the most that is read and one more")
-    for before, opening, middle, closing, behind, without, each, goals in ROWS:
-        count = (MAX_NEST - without) // each
-        for repeated, wanted in ((count, goals), (count + 1, "nn")):
-            text = before + opening * repeated + middle + closing * repeated + behind
-            print(f"{wanted} {text}")
+    print("# the nest: each construct that counts, at the most that is read and one more, by bench/nest_rows.py")
+    for row in ROWS:
+        for nest, wanted in ((MAX_NEST, row[-1]), (MAX_NEST + 1, "nn")):
+            print(f"{wanted} {text_of(row, nest)}")
 
 
 main()
