@@ -1,9 +1,8 @@
 -- Where what is tried first gives way to what is tried behind it.
-use Rattle.std.specs.Prelude.{◌≡◌, ℕ, false, Option, Some, None}
+use Rattle.std.specs.Prelude.{◌≡◌, ℕ, Some, None}
 use Rattle.es_tree.specs.declared.tokens.Token.{Token}
 use Rattle.es_tree.specs.declared.tokens.Goal.TheVariants.{Operand as AtOperand}
 use Rattle.es_grammar.specs.declared.places.Context.{Context}
-use Rattle.es_grammar.specs.Contexts.{without_in}
 use Rattle.es_grammar.specs.Reading.{Bytes}
 use Rattle.es_reader.specs.Basics.{◌>>=◌, token}
 use Rattle.es_reader.specs.Readers.{Readers}

@@ -27,13 +27,16 @@ pub struct Seen {
     pub at_each_goal: bool,
 }
 
-/// A text, with the token that was looked at last.
+/// A text, with the two tokens that were looked at last: a production that looks one token ahead comes back to the first.
 #[derive(Drop)]
 pub struct Cursor<'a> {
     pub(crate) text: &'a [u8],
     pub(crate) alloc: Global,
-    seen: Option<Seen>,
+    last: Option<Seen>,
+    before: Option<Seen>,
     passed: BTreeMap<u64, Passed>,
+    // No attempt behind this place is in `passed`.
+    furthest: u32,
 }
 
 impl<'a> Model for Cursor<'a> {
@@ -47,7 +50,8 @@ impl<'a> Model for Cursor<'a> {
 
     ghost view = { λ cursor. cursor.text.now };
 
-    ghost invariant = { λ cursor. IfSome cursor.seen (IsSeen cursor.text.now)
+    ghost invariant = { λ cursor. IfSome cursor.last (IsSeen cursor.text.now)
+        × IfSome cursor.before (IsSeen cursor.text.now)
         × All (GivesWay cursor.text.now) (values_of cursor.passed.entries) };
 }
 
@@ -79,6 +83,19 @@ fn look(text: &[u8], goal: Goal, at: u32) -> Result<Seen, LexFault>
     })
 }
 
+// The token that was looked at, where it stands at this place and goal.
+fn token_of(text: &[u8], seen: Option<Seen>, goal: Goal, at: u32) -> Option<Token>
+    requires { IfSome seen (IsSeen text.now) }
+    ensures { IfSome result (λ token. (token_at text.now at goal ≡ Ok token) × LiesBehind text.now at token) }
+{
+    let seen = seen?;
+    if seen.at == at && (seen.at_each_goal || seen.goal == goal) {
+        Some(seen.token)
+    } else {
+        None
+    }
+}
+
 impl<'a> Cursor<'a> {
     /// A cursor that has looked at nothing. What is made while it reads takes memory of `alloc`.
     pub fn new(alloc: Global, text: &'a [u8]) -> Cursor<'a>
@@ -87,8 +104,10 @@ impl<'a> Cursor<'a> {
         Cursor {
             text,
             alloc,
-            seen: None,
+            last: None,
+            before: None,
             passed: BTreeMap::new(alloc),
+            furthest: 0,
         }
     }
 
@@ -108,12 +127,10 @@ impl<'a> Cursor<'a> {
     fn remembered(&self, goal: Goal, at: u32) -> Option<Token>
         ensures { IfSome result (λ token. (token_at self.now at goal ≡ Ok token) × LiesBehind self.now at token) }
     {
-        let seen = self.seen?;
-        if seen.at == at && (seen.at_each_goal || seen.goal == goal) {
-            Some(seen.token)
-        } else {
-            None
+        if let Some(token) = token_of(self.text, self.last, goal, at) {
+            return Some(token);
         }
+        token_of(self.text, self.before, goal, at)
     }
 
     /// The token at a place, read at a goal, if one stands there.
@@ -129,7 +146,8 @@ impl<'a> Cursor<'a> {
         }
         match look(self.text, goal, at) {
             Ok(seen) => {
-                self.seen = Some(seen);
+                self.before = self.last;
+                self.last = Some(seen);
                 Some(seen.token)
             }
             Err(_) => None,
@@ -153,6 +171,9 @@ impl<'a> Cursor<'a> {
     pub fn has_passed(&self, passed: Passed) -> bool
         ensures { (result ≡ true) → GivesWay self.now passed }
     {
+        if self.furthest < passed.at {
+            return false;
+        }
         match self.passed.get(&passed.key()) {
             Some(known) => known.is_same(passed),
             None => false,
@@ -165,6 +186,7 @@ impl<'a> Cursor<'a> {
         ensures { self.new ≡ self.old }
     {
         self.passed.insert(passed.key(), passed)?;
+        self.furthest = self.furthest.max(passed.at);
         Ok(())
     }
 }

@@ -6,12 +6,14 @@ ghost use Rattle.es_tree.specs.Units as spec;
 use crate::characters::{digit_value, is_digit, is_line_character};
 use crate::utf8::{behind, byte, character};
 
+#[inline]
 pub fn begins(text: &[u8], a: u8, b: u8) -> bool
     ensures { result ≡ spec.begins text.now a b }
 {
     byte(text, 0) == a && byte(text, 1) == b
 }
 
+#[inline]
 #[tactic(auto, unfolding(es_tree::specs::Units::of_class))]
 pub fn line_character(text: &[u8]) -> usize
     ensures value { result ≡ spec.of_class characters.is_line_character text.now }

@@ -145,6 +145,7 @@ fn open_comment(text: &[u8]) -> usize
     2 + run(Unit::Comment, behind(text, 2))
 }
 
+#[inline(always)]
 fn mark(text: &[u8]) -> Lexeme
     ensures value { result ≡ spec.some_of kinds.Punctuator (marks.mark_length text.now) }
     ensures fits { IfOk result (Fits text.now) }

@@ -27,6 +27,7 @@ pub enum Unit {
     Class,
 }
 
+#[inline(always)]
 #[tactic(auto, unfolding(es_tree::specs::Units::comment_character))]
 fn comment_character(text: &[u8]) -> usize
     ensures value { result ≡ spec.comment_character text.now }
@@ -109,6 +110,7 @@ fn string_unit(quote: u8, text: &[u8]) -> usize
     }
 }
 
+#[inline(always)]
 #[tactic(auto, unfolding(es_tree::specs::Units::template_unit))]
 fn template_unit(text: &[u8]) -> usize
     ensures value { result ≡ spec.template_unit text.now }
@@ -124,6 +126,7 @@ fn template_unit(text: &[u8]) -> usize
     }
 }
 
+#[inline(always)]
 #[tactic(auto, unfolding(es_tree::specs::Units::class_unit))]
 fn class_unit(text: &[u8]) -> usize
     ensures value { result ≡ spec.class_unit text.now }
@@ -136,6 +139,7 @@ fn class_unit(text: &[u8]) -> usize
     }
 }
 
+#[inline(always)]
 fn size_of(unit: Unit, text: &[u8]) -> usize
     ensures value { result ≡ unit_of unit text.now }
     ensures within { result ≤ length text.now }
