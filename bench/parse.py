@@ -3,7 +3,7 @@
 
 Run it as: python3 bench/parse.py [FILE ..]
 FILES are scripts (three.js by default, of Debian's libjs-three). parse_run parses each file at both goals, so a parse takes
-half of its time; token_count lexes the same text once. Times are the least processor time of several runs in turn.
+half of its time; tokens_run lexes the same text once. Times are the least processor time of several runs in turn.
 """
 import os
 import subprocess
@@ -62,10 +62,10 @@ def least(command, given=b"", runs=RUNS):
 
 
 def main():
-    parse, lex = (CRATES / name / "out" / name for name in ("parse_run", "token_count"))
+    parse, lex = (CRATES / name / "out" / name for name in ("parse_run", "tokens_run"))
     for program in (parse, lex):
         if not program.exists():
-            sys.exit(f"{program} is not built: rt ci parse_run token_count")
+            sys.exit(f"{program} is not built: rt ci parse_run tokens_run")
     base = least([parse])[0]
     lex_base = least([lex])[0]
     with tempfile.TemporaryDirectory() as top:

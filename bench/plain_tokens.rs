@@ -1,4 +1,4 @@
-// A plain Rust program that does the work of token_count: it reads a text from the standard input and counts its tokens, by the
+// A plain Rust program that does the work of tokens_run: it reads a text from the standard input and counts its tokens, by the
 // same rules. The baseline of bench/tokens.py; built with rustc -O.
 use std::io::Read;
 

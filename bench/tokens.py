@@ -1,5 +1,5 @@
 #!/usr/bin/env python3
-"""Times token_count, which calls next_token until the end, against bench/plain_tokens.rs (rustc -O), over 4 MiB of code, in one run.
+"""Times tokens_run, which calls next_token until the end, against bench/plain_tokens.rs (rustc -O), over 4 MiB of code, in one run.
 
 Prints the least processor time of each over 15 runs in turn, less that of an empty text, as MB/s, and the ratio.
 Run it as: python3 bench/tokens.py
@@ -69,7 +69,7 @@ def main():
         top = Path(top)
         plain = top / "plain"
         subprocess.run(["rustc", "-O", "-o", plain, TOP / "bench/plain_tokens.rs"], check=True)
-        programs = {"token_count": TOP / "crates/token_count/out/token_count", "plain": plain}
+        programs = {"tokens_run": TOP / "crates/tokens_run/out/tokens_run", "plain": plain}
         whole, empty = top / "whole.js", top / "empty.js"
         whole.write_bytes(text())
         empty.write_bytes(b"")
@@ -81,12 +81,12 @@ def main():
                 spent, printed[name] = once(program, whole)
                 seconds[name].append(spent)
                 base[name].append(once(program, empty)[0])
-        if printed["token_count"] != printed["plain"]:
+        if printed["tokens_run"] != printed["plain"]:
             sys.exit(f"the two programs counted differently: {printed}")
         least = {name: min(seconds[name]) - min(base[name]) for name in programs}
         for name in programs:
             print(f"{name}: {least[name] * 1000:.1f} ms, {SIZE / 1e6 / least[name]:.0f} MB/s")
-        print(f"ratio {least['token_count'] / least['plain']:.2f}, tokens {printed['plain'].decode().strip()}")
+        print(f"ratio {least['tokens_run'] / least['plain']:.2f}, tokens {printed['plain'].decode().strip()}")
 
 
 main()

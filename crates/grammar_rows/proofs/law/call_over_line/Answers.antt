@@ -1,5 +1,0 @@
-use Rattle.grammar_rows.proofs.Derivations.{call_over_line}
-use Rattle.grammar_rows.proofs.law.call_over_line.Goals as goal
-
-pub returns : goal.returns
-returns c = call_over_line

@@ -1,5 +1,0 @@
-use Rattle.grammar_rows.proofs.Unopened.{export_in_script}
-use Rattle.grammar_rows.proofs.law.export_in_script.Goals as goal
-
-pub returns : goal.returns
-returns c program script parse = export_in_script program script parse

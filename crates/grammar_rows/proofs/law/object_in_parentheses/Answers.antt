@@ -1,5 +1,0 @@
-use Rattle.grammar_rows.proofs.Derivations.{object_in_parentheses}
-use Rattle.grammar_rows.proofs.law.object_in_parentheses.Goals as goal
-
-pub returns : goal.returns
-returns c = object_in_parentheses

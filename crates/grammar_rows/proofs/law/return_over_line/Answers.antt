@@ -1,5 +1,0 @@
-use Rattle.grammar_rows.proofs.Derivations.{return_over_line}
-use Rattle.grammar_rows.proofs.law.return_over_line.Goals as goal
-
-pub returns : goal.returns
-returns c = return_over_line
