@@ -1,0 +1,9 @@
+pub mod Chunks
+pub mod Entries
+pub mod Factories
+pub mod Getters
+pub mod Holding
+pub mod Joined
+pub mod Json
+pub mod Materials
+pub mod Pens
