@@ -18,7 +18,7 @@ pub fault_or : {P Q : ModuleFault → Type 0} → ((one_fault : ModuleFault) →
 fault_or f fault.NoMemory p = tt
 fault_or f fault.NotUtf8 p = f fault.NotUtf8 p
 fault_or f fault.Syntax p = f fault.Syntax p
-fault_or f (fault.Early error place) p = f (fault.Early error place) p
+fault_or f (fault.Early error place name) p = f (fault.Early error place name) p
 fault_or f (fault.Refused refusal place) p = f (fault.Refused refusal place) p
 fault_or f fault.BadJson p = f fault.BadJson p
 

@@ -1,5 +1,5 @@
 -- From the tables of a text to its first fault.
-use Rattle.std.proofs.Common.{◌≡◌, ℕ, Some, None, sym, subst}
+use Rattle.std.proofs.Common.{◌≡◌, ℕ, List, Some, None, sym, subst}
 use Rattle.es_scope.specs.declared.kinds.EarlyError.{EarlyError}
 use Rattle.es_scope.specs.declared.kinds.Refusal.{Refusal}
 use Rattle.es_scope.specs.Source.{Source}
@@ -8,7 +8,7 @@ use Rattle.es_refusals.specs.First.{IsFirst}
 use Rattle.es_facts.specs.declared.tables.Tables.{Tables}
 use Rattle.es_facts.specs.declared.answer.ModuleFault.TheVariants as fault
 use Rattle.es_facts.specs.Answer.{HasFaultAt}
-use Rattle.es_facts.specs.Errors.{IsFirstError, first_error, start_at}
+use Rattle.es_facts.specs.Errors.{IsFirstError, SpeaksOf, first_error, start_at}
 use Rattle.es_facts.specs.Tables.{AreTables}
 use Rattle.es_facts.proofs.FirstErrors.{first_of_all}
 
@@ -24,10 +24,10 @@ found source place error (IsFirstError.some _ _ first) = first
 no_error : (source : Source) → IsFirstError source None → (place : ℕ) (error : EarlyError) → ¬ IsEarly source place error
 no_error source (IsFirstError.none never) = never
 
-pub is_early : (source : Source) (place start : ℕ) (error : EarlyError) → IsFirstError source (Some (place, error)) → start ≡ start_at source place
-    → HasFaultAt source (fault.Early error start)
-is_early source place start error first at =
-    subst (λ (n : ℕ). HasFaultAt source (fault.Early error n)) (sym at) (HasFaultAt.early place error (found source place error first))
+pub is_early : (source : Source) (place start : ℕ) (error : EarlyError) (name : List ℕ) → IsFirstError source (Some (place, error)) → SpeaksOf source place error name
+    → start ≡ start_at source place → HasFaultAt source (fault.Early error start name)
+is_early source place start error name first speaks at =
+    subst (λ (n : ℕ). HasFaultAt source (fault.Early error n name)) (sym at) (HasFaultAt.early place error name (found source place error first) speaks)
 
 first_of : (source : Source) (place : ℕ) (refusal : Refusal) → IsFirstError source None → IsFirst source (Some (place, refusal)) → IsFirstRefused source place refusal
 first_of source place refusal never (IsFirst.some _ _ there least) = record { no_error = no_error source never; is_there = there; first = least }

@@ -3,3 +3,4 @@ pub mod Judging
 pub mod ByName
 pub mod Judged
 pub mod Fitting
+mod Exported

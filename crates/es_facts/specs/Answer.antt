@@ -1,5 +1,5 @@
 -- What is answered of a module's text: its facts and the outline that gave them, or its first fault.
-use Rattle.std.specs.Prelude.{◌≡◌, ◌≢◌, ◌⊎◌, ℕ, ◌+◌, Bool, true, false, length, Option, Some, None, Result, Ok, Err}
+use Rattle.std.specs.Prelude.{◌≡◌, ◌≢◌, ◌⊎◌, ℕ, ◌+◌, Bool, true, false, length, List, Option, Some, None, Result, Ok, Err}
 use Rattle.std.specs.Str.{IsUtf8}
 use Rattle.es_tree.specs.declared.tokens.ProgramGoal.{ProgramGoal}
 use Rattle.es_tree.specs.declared.tokens.ProgramGoal.TheVariants.{Script, Module}
@@ -22,7 +22,7 @@ use Rattle.es_scope.specs.declared.kinds.Refusal.{Refusal}
 use Rattle.es_scope.specs.Source.{Source}
 use Rattle.es_scope.specs.Faults.{IsFirstEarly, IsFirstRefused, HasNoFault}
 use Rattle.es_scope.specs.FactsOf.{AreFacts}
-use Rattle.es_facts.specs.Errors.{start_at}
+use Rattle.es_facts.specs.Errors.{SpeaksOf, start_at}
 use Rattle.es_facts.specs.declared.answer.ModuleFault.{ModuleFault}
 use Rattle.es_facts.specs.declared.answer.ModuleFault.TheVariants as fault
 use Rattle.es_facts.specs.declared.answer.Parsed.{Parsed}
@@ -73,7 +73,8 @@ pub data HasFacts (text : Bytes) : NameKind → Facts → Option Outlined → Ty
 
 -- the fault of a text that parses at a goal, at the byte where its token starts
 pub data HasFaultAt (source : Source) : ModuleFault → Type 0 where
-  early : (place : ℕ) (error : EarlyError) → IsFirstEarly source place error → HasFaultAt source (fault.Early error (start_at source place))
+  early : (place : ℕ) (error : EarlyError) (name : List ℕ) → IsFirstEarly source place error → SpeaksOf source place error name
+      → HasFaultAt source (fault.Early error (start_at source place) name)
   refused : (place : ℕ) (refusal : Refusal) → IsFirstRefused source place refusal → HasFaultAt source (fault.Refused refusal (start_at source place))
 
 pub data HasFault (text : Bytes) : NameKind → ModuleFault → Type 0 where

@@ -6,7 +6,7 @@ ghost use Rattle.es_facts.specs.Errors.{IsFirstError};
 ghost use Rattle.es_facts.specs.Tables.{AreTables};
 
 use crate::answer::ModuleFault;
-use crate::faults::{first_error, start_of};
+use crate::faults::{error_name, first_error, start_of};
 use crate::tables::{Tables, make_tables};
 use es_refusals::{first_refused, free, inner};
 use es_scope::{EarlyError, Outlined};
@@ -42,7 +42,8 @@ fn judge(alloc: Global, outlined: &Outlined<'_>, tables: &Tables) -> Result<(), 
     ensures { spec.Judges outlined.now result }
 {
     if let Some((place, error)) = early_error(outlined, tables) {
-        return Err(ModuleFault::Early(error, start_of(outlined, place)));
+        let name = error_name(alloc, outlined, place, error)?;
+        return Err(ModuleFault::Early(error, start_of(outlined, place), name));
     }
     match first_refused(alloc, outlined, &tables.scopes, &tables.enclosing)? {
         Some((place, refusal)) => Err(ModuleFault::Refused(refusal, start_of(outlined, place))),

@@ -16,4 +16,5 @@ mod question;
 mod search;
 
 pub use fault::{Asker, ExportFault, FaultKind};
+pub use question::{Question, of_export, of_import};
 pub use search::first_fault;

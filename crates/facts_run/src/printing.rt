@@ -181,7 +181,11 @@ pub(crate) fn show_fault(rt: &impl Print, fault: ModuleFault) -> io::Result<()> 
     match fault {
         ModuleFault::NotUtf8 => println!(rt; " not UTF-8"),
         ModuleFault::Syntax => println!(rt; " syntax"),
-        ModuleFault::Early(error, place) => { println!(rt; " {} at {place}", word_of_error(error)) }
+        ModuleFault::Early(error, place, name) => {
+            print!(rt; " {}", word_of_error(error))?;
+            show_name(rt, " ", &name)?;
+            println!(rt; " at {place}")
+        }
         ModuleFault::Refused(refusal, place) => {
             println!(rt; " {} at {place}", word_of_refusal(refusal))
         }

@@ -62,7 +62,7 @@ module _ (one : File) where
         after_scope : (other : ℕ) (further : FileFault) → StandsIn text named other further → IsAtMost (order 0 (fault.BadScope bad)) (order other further)
         after_scope other further (StandsIn.not_utf8 program lacks) = absurd (utf8 (program, lacks))
         after_scope other further (StandsIn.syntax _) = inr (inr (refl, inl (lit< tt)))
-        after_scope other further (StandsIn.early _ _ _ _ _ _) = inr (inr (refl, inl (lit< tt)))
+        after_scope other further (StandsIn.early _ _ _ _ _ _ _ _) = inr (inr (refl, inl (lit< tt)))
         after_scope other further (StandsIn.refused _ _ _ _ _ _) = inr (inr (refl, inl (lit< tt)))
         after_scope other further (StandsIn.bad_json _ _) = inr (inr (refl, inl (lit< tt)))
 
@@ -91,7 +91,7 @@ module _ (one : File) where
         first_given text_fault.NoMemory has = inl refl
         first_given text_fault.NotUtf8 has = inr (first_of_text _ (first_in text named text_fault.NotUtf8 has))
         first_given text_fault.Syntax has = inr (first_of_text _ (first_in text named text_fault.Syntax has))
-        first_given (text_fault.Early error start) has = inr (first_of_text _ (first_in text named (text_fault.Early error start) has))
+        first_given (text_fault.Early error start called) has = inr (first_of_text _ (first_in text named (text_fault.Early error start called) has))
         first_given (text_fault.Refused refusal start) has = inr (first_of_text _ (first_in text named (text_fault.Refused refusal start) has))
         first_given text_fault.BadJson has = inr (first_of_text _ (first_in text named text_fault.BadJson has))
 
@@ -142,7 +142,7 @@ module _ (one : File) (text : Bytes) (text_is : one.text ≡ Some text) (named :
 waits_in : (bytes : Bytes) (kind : NameKind) → ¬ LacksUtf8 bytes kind → (place : ℕ) (further : FileFault) → StandsIn bytes kind place further → IsTrue (needs_manifest further)
 waits_in bytes kind utf8 place further (StandsIn.not_utf8 program lacks) = absurd (utf8 (program, lacks))
 waits_in bytes kind utf8 place further (StandsIn.syntax _) = refl
-waits_in bytes kind utf8 place further (StandsIn.early _ _ _ _ _ _) = refl
+waits_in bytes kind utf8 place further (StandsIn.early _ _ _ _ _ _ _ _) = refl
 waits_in bytes kind utf8 place further (StandsIn.refused _ _ _ _ _ _) = refl
 waits_in bytes kind utf8 place further (StandsIn.bad_json _ _) = refl
 

@@ -1,5 +1,5 @@
 -- The first fault of a text is the least of those that stand in it.
-use Rattle.std.proofs.Common.{◌≡◌, ◌⊎◌, inl, inr, ℕ, ◌<◌, ◌≤◌, lit<, arith, Option, refl, subst}
+use Rattle.std.proofs.Common.{◌≡◌, ◌⊎◌, inl, inr, ℕ, ◌<◌, ◌≤◌, lit<, arith, List, Option, refl, subst}
 use Rattle.std.specs.Str.{IsUtf8}
 use Rattle.es_tree.specs.declared.tokens.ProgramGoal.{ProgramGoal}
 use Rattle.es_grammar.specs.Reading.{Bytes}
@@ -34,32 +34,32 @@ module _ (text : Bytes) (named : NameKind) where
   pub least_large : (other : ℕ) (further : FileFault) → StandsIn text named other further → IsAtMost (order 0 fault.TooLarge) (order other further)
   least_large other further (StandsIn.not_utf8 _ _) = inr (inr (refl, inl (lit< tt)))
   least_large other further (StandsIn.syntax _) = inr (inr (refl, inl (lit< tt)))
-  least_large other further (StandsIn.early _ _ _ _ _ _) = inr (inr (refl, inl (lit< tt)))
+  least_large other further (StandsIn.early _ _ _ _ _ _ _ _) = inr (inr (refl, inl (lit< tt)))
   least_large other further (StandsIn.refused _ _ _ _ _ _) = inr (inr (refl, inl (lit< tt)))
   least_large other further (StandsIn.bad_json _ _) = inr (inr (refl, inl (lit< tt)))
 
   pub least_utf8 : (other : ℕ) (further : FileFault) → StandsIn text named other further → IsAtMost (order 0 fault.NotUtf8) (order other further)
   least_utf8 other further (StandsIn.not_utf8 _ _) = inl refl
   least_utf8 other further (StandsIn.syntax _) = inr (inr (refl, inl (lit< tt)))
-  least_utf8 other further (StandsIn.early _ _ _ _ _ _) = inr (inr (refl, inl (lit< tt)))
+  least_utf8 other further (StandsIn.early _ _ _ _ _ _ _ _) = inr (inr (refl, inl (lit< tt)))
   least_utf8 other further (StandsIn.refused _ _ _ _ _ _) = inr (inr (refl, inl (lit< tt)))
   least_utf8 other further (StandsIn.bad_json _ _) = inr (inr (refl, inl (lit< tt)))
 
   least_syntax : IsUtf8 text → (other : ℕ) (further : FileFault) → StandsIn text named other further → IsAtMost (order 0 fault.Syntax) (order other further)
   least_syntax utf8 other further (StandsIn.not_utf8 _ lacks) = absurd (lacks utf8)
   least_syntax utf8 other further (StandsIn.syntax _) = inl refl
-  least_syntax utf8 other further (StandsIn.early _ _ _ _ _ _) = inr (inr (refl, inl (lit< tt)))
+  least_syntax utf8 other further (StandsIn.early _ _ _ _ _ _ _ _) = inr (inr (refl, inl (lit< tt)))
   least_syntax utf8 other further (StandsIn.refused _ _ _ _ _ _) = inr (inr (refl, inl (lit< tt)))
   least_syntax utf8 other further (StandsIn.bad_json _ _) = inr (inr (refl, inl (lit< tt)))
 
   -- the earlier of two early errors
-  early_order : (place other : ℕ) (error further : EarlyError) (start start_of : ℕ) → place < other ⊎ ((place ≡ other) × (error_rank error ≤ error_rank further))
-      → IsAtMost (order place (fault.Early error start)) (order other (fault.Early further start_of))
-  early_order place other error further start start_of (inl before) = inr (inr (refl, inr (refl, inl before)))
-  early_order place other error further start start_of (inr same) = at_place (less_or (error_rank error) (error_rank further) same.1)
+  early_order : (place other : ℕ) (error further : EarlyError) (start start_of : ℕ) (name called : List ℕ) → place < other ⊎ ((place ≡ other) × (error_rank error ≤ error_rank further))
+      → IsAtMost (order place (fault.Early error start name)) (order other (fault.Early further start_of called))
+  early_order place other error further start start_of name called (inl before) = inr (inr (refl, inr (refl, inl before)))
+  early_order place other error further start start_of name called (inr same) = at_place (less_or (error_rank error) (error_rank further) same.1)
     where
       at_place : (error_rank error < error_rank further) ⊎ (error_rank error ≡ error_rank further)
-          → IsAtMost (order place (fault.Early error start)) (order other (fault.Early further start_of))
+          → IsAtMost (order place (fault.Early error start name)) (order other (fault.Early further start_of called))
       at_place (inl less) = inr (inr (refl, inr (refl, inr (same.0, inl less))))
       at_place (inr equal) = inl cc
 
@@ -83,35 +83,38 @@ module _ (text : Bytes) (named : NameKind) where
         → IsRefused (source_of text other further) place refusal → IsRefused (source_of text goal marks) place refusal
     refused_here other further place refusal again is = subst (λ source. IsRefused source place refusal) (same_of other further again) is
 
-    least_early : (place : ℕ) (error : EarlyError) (start : ℕ) → IsFirstEarly (source_of text goal marks) place error → (other : ℕ) (further : FileFault)
-        → StandsIn text named other further → IsAtMost (order place (fault.Early error start)) (order other further)
-    least_early place error start first other further (StandsIn.not_utf8 _ lacks) = absurd (lacks utf8)
-    least_early place error start first other further (StandsIn.syntax none) = absurd (outlined_reads text named goal marks outlined none)
-    least_early place error start first other further (StandsIn.early one many at wrong again is) =
-        early_order place at error wrong start (start_at (source_of text one many) at) (first.first at wrong (early_here one many at wrong again is))
-    least_early place error start first other further (StandsIn.refused _ _ _ _ _ _) = inr (inr (refl, inl (lit< tt)))
-    least_early place error start first other further (StandsIn.bad_json _ _) = inr (inr (refl, inl (lit< tt)))
+    least_early : (place : ℕ) (error : EarlyError) (start : ℕ) (name : List ℕ) → IsFirstEarly (source_of text goal marks) place error → (other : ℕ) (further : FileFault)
+        → StandsIn text named other further → IsAtMost (order place (fault.Early error start name)) (order other further)
+    least_early place error start name first other further (StandsIn.not_utf8 _ lacks) = absurd (lacks utf8)
+    least_early place error start name first other further (StandsIn.syntax none) = absurd (outlined_reads text named goal marks outlined none)
+    least_early place error start name first other further (StandsIn.early one many at wrong called again is speaks) =
+        early_order place at error wrong start (start_at (source_of text one many) at) name called (first.first at wrong (early_here one many at wrong again is))
+    least_early place error start name first other further (StandsIn.refused _ _ _ _ _ _) = inr (inr (refl, inl (lit< tt)))
+    least_early place error start name first other further (StandsIn.bad_json _ _) = inr (inr (refl, inl (lit< tt)))
 
     least_refused : (place : ℕ) (refusal : Refusal) (start : ℕ) → IsFirstRefused (source_of text goal marks) place refusal → (other : ℕ) (further : FileFault)
         → StandsIn text named other further → IsAtMost (order place (fault.Refused refusal start)) (order other further)
     least_refused place refusal start first other further (StandsIn.not_utf8 _ lacks) = absurd (lacks utf8)
     least_refused place refusal start first other further (StandsIn.syntax none) = absurd (outlined_reads text named goal marks outlined none)
-    least_refused place refusal start first other further (StandsIn.early one many at wrong again is) =
+    least_refused place refusal start first other further (StandsIn.early one many at wrong called again is speaks) =
         absurd (first.no_error at wrong (early_here one many at wrong again is))
     least_refused place refusal start first other further (StandsIn.refused one many at wrong again is) =
         refused_order place at refusal wrong start (start_at (source_of text one many) at) (first.first at wrong (refused_here one many at wrong again is))
     least_refused place refusal start first other further (StandsIn.bad_json _ _) = inr (inr (refl, inl (lit< tt)))
 
     first_at_goal : (one_fault : ModuleFault) → HasFaultAt (source_of text goal marks) one_fault → IsFirstIn text named (of_text one_fault)
-    first_at_goal one_fault (HasFaultAt.early place error first) =
-        record { place = place; stands = StandsIn.early goal marks place error outlined first.is_there; least = least_early place error (start_at (source_of text goal marks) place) first }
+    first_at_goal one_fault (HasFaultAt.early place error name first speaks) = record {
+      place = place;
+      stands = StandsIn.early goal marks place error name outlined first.is_there speaks;
+      least = least_early place error (start_at (source_of text goal marks) place) name first;
+    }
     first_at_goal one_fault (HasFaultAt.refused place refusal first) =
         record { place = place; stands = StandsIn.refused goal marks place refusal outlined first.is_there; least = least_refused place refusal (start_at (source_of text goal marks) place) first }
 
     no_fault_here : HasNoFault (source_of text goal marks) → (other : ℕ) (further : FileFault) → ¬ StandsIn text named other further
     no_fault_here never other further (StandsIn.not_utf8 _ lacks) = lacks utf8
     no_fault_here never other further (StandsIn.syntax none) = outlined_reads text named goal marks outlined none
-    no_fault_here never other further (StandsIn.early one many at wrong again is) = never.no_error at wrong (early_here one many at wrong again is)
+    no_fault_here never other further (StandsIn.early one many at wrong called again is speaks) = never.no_error at wrong (early_here one many at wrong again is)
     no_fault_here never other further (StandsIn.refused one many at wrong again is) = never.no_refusal at wrong (refused_here one many at wrong again is)
     no_fault_here never other further (StandsIn.bad_json json _) = outlined_program text named goal marks outlined json
 
@@ -119,14 +122,14 @@ module _ (text : Bytes) where
   least_json : (other : ℕ) (further : FileFault) → StandsIn text name.Json other further → IsAtMost (order 0 fault.BadJson) (order other further)
   least_json other further (StandsIn.not_utf8 program _) = absurd (program refl)
   least_json other further (StandsIn.syntax none) = absurd (json_reads text none)
-  least_json other further (StandsIn.early goal marks _ _ is _) = absurd (json_no_outline text goal marks is)
+  least_json other further (StandsIn.early goal marks _ _ _ is _ _) = absurd (json_no_outline text goal marks is)
   least_json other further (StandsIn.refused goal marks _ _ is _) = absurd (json_no_outline text goal marks is)
   least_json other further (StandsIn.bad_json _ _) = inl refl
 
   no_fault_json : IsJson text → (other : ℕ) (further : FileFault) → ¬ StandsIn text name.Json other further
   no_fault_json json other further (StandsIn.not_utf8 program _) = program refl
   no_fault_json json other further (StandsIn.syntax none) = json_reads text none
-  no_fault_json json other further (StandsIn.early goal marks _ _ is _) = json_no_outline text goal marks is
+  no_fault_json json other further (StandsIn.early goal marks _ _ _ is _ _) = json_no_outline text goal marks is
   no_fault_json json other further (StandsIn.refused goal marks _ _ is _) = json_no_outline text goal marks is
   no_fault_json json other further (StandsIn.bad_json _ lacks) = lacks json
 

@@ -11,7 +11,7 @@ use Rattle.es_scope.specs.declared.kinds.Refusal.{Refusal}
 use Rattle.es_scope.specs.Faults.{IsEarly, rank as error_rank}
 use Rattle.es_scope.specs.Refused.{IsRefused}
 use Rattle.es_facts.specs.Answer.{IsOutlined, IsSyntax, IsJson, source_of}
-use Rattle.es_facts.specs.Errors.{start_at}
+use Rattle.es_facts.specs.Errors.{SpeaksOf, start_at}
 use Rattle.es_facts.specs.declared.answer.ModuleFault.{ModuleFault}
 use Rattle.es_facts.specs.declared.answer.ModuleFault.TheVariants as text_fault
 use Rattle.module_graph.specs.Shortlex.{IsAtMost}
@@ -23,7 +23,7 @@ use Rattle.module_at_path.specs.Files.{Scope, File, kind_of}
 abbrev pub of_text : ModuleFault → FileFault
 of_text text_fault.NotUtf8 = fault.NotUtf8
 of_text text_fault.Syntax = fault.Syntax
-of_text (text_fault.Early error start) = fault.Early error start
+of_text (text_fault.Early error start name) = fault.Early error start name
 of_text (text_fault.Refused refusal start) = fault.Refused refusal start
 of_text text_fault.BadJson = fault.BadJson
 of_text text_fault.NoMemory = fault.NoMemory
@@ -33,8 +33,9 @@ of_text text_fault.NoMemory = fault.NoMemory
 pub data StandsIn (text : Bytes) (named : NameKind) : ℕ → FileFault → Type 0 where
   not_utf8 : named ≢ name.Json → ¬ IsUtf8 text → StandsIn text named 0 fault.NotUtf8
   syntax : IsSyntax text named → StandsIn text named 0 fault.Syntax
-  early : (goal : ProgramGoal) (marks : Marks) (place : ℕ) (error : EarlyError) → IsOutlined text named goal marks → IsEarly (source_of text goal marks) place error
-      → StandsIn text named place (fault.Early error (start_at (source_of text goal marks) place))
+  early : (goal : ProgramGoal) (marks : Marks) (place : ℕ) (error : EarlyError) (name : List ℕ) → IsOutlined text named goal marks
+      → IsEarly (source_of text goal marks) place error → SpeaksOf (source_of text goal marks) place error name
+      → StandsIn text named place (fault.Early error (start_at (source_of text goal marks) place) name)
   refused : (goal : ProgramGoal) (marks : Marks) (place : ℕ) (refusal : Refusal) → IsOutlined text named goal marks → IsRefused (source_of text goal marks) place refusal
       → StandsIn text named place (fault.Refused refusal (start_at (source_of text goal marks) place))
   bad_json : named ≡ name.Json → ¬ IsJson text → StandsIn text named 0 fault.BadJson
@@ -54,7 +55,7 @@ rank fault.TooLarge = 0
 rank fault.NotUtf8 = 1
 rank (fault.BadScope bad) = 2
 rank fault.Syntax = 3
-rank (fault.Early error start) = 4
+rank (fault.Early error start name) = 4
 rank (fault.Refused refusal start) = 5
 rank fault.BadJson = 6
 rank fault.UnknownType = 7
@@ -62,7 +63,7 @@ rank fault.NoMemory = 8
 
 -- which early error of one place comes first
 abbrev pub rank_at_place : FileFault → ℕ
-rank_at_place (fault.Early error start) = error_rank error
+rank_at_place (fault.Early error start name) = error_rank error
 rank_at_place _ = 0
 
 -- the rank and the place of a fault; faults are in the order of these lists of one length

@@ -6,6 +6,7 @@ ghost use Rattle.module_at_path.specs.Faults.{of_text};
 use es_facts::ModuleFault;
 use es_scope::{EarlyError, Refusal};
 use pk_base::Path;
+use pk_types::Name;
 use std::alloc::AllocError;
 
 /// Why there is no module at a path, in the order in which these are looked for. The numbers are places in bytes.
@@ -19,8 +20,8 @@ pub enum FileFault {
     BadScope(Path),
     /// No tree at any goal that the name allows.
     Syntax,
-    /// The first early error.
-    Early(EarlyError, u32),
+    /// The first early error, and the name that it speaks of.
+    Early(EarlyError, u32, Name),
     /// The first construct that is not bundled.
     Refused(Refusal, u32),
     /// A JSON module that is not JSON.
@@ -45,7 +46,7 @@ impl From<ModuleFault> for FileFault {
         match given {
             ModuleFault::NotUtf8 => FileFault::NotUtf8,
             ModuleFault::Syntax => FileFault::Syntax,
-            ModuleFault::Early(error, place) => FileFault::Early(error, place),
+            ModuleFault::Early(error, place, name) => FileFault::Early(error, place, name),
             ModuleFault::Refused(refusal, place) => FileFault::Refused(refusal, place),
             ModuleFault::BadJson => FileFault::BadJson,
             ModuleFault::NoMemory => FileFault::NoMemory,

@@ -6,8 +6,8 @@ use Rattle.es_facts.proofs.gathering.judge.Goals as goal
 
 pub returns-in-Some : goal.returns-in-Some
 returns-in-Some c =
-    is_early c.args.outlined.now c.in-Some.place c.start_of.result c.in-Some.error
-    (subst (IsFirstError c.args.outlined.now) c.in-Some.is c.early_error.ensures) c.start_of.ensures
+    is_early c.args.outlined.now c.in-Some.place c.start_of.result c.in-Some.error c.in_ok-name.name
+    (subst (IsFirstError c.args.outlined.now) c.in-Some.is c.early_error.ensures) c.in_ok-name.ensures c.start_of.ensures
 
 pub returns-in-Some-2 : goal.returns-in-Some-2
 returns-in-Some-2 c =
