@@ -1,0 +1,10 @@
+pub mod Aims
+pub mod Candidates
+pub mod Folders
+pub mod Looking
+pub mod Manifests
+pub mod Places
+pub mod Present
+pub mod Requests
+pub mod Resolution
+pub mod Walks
