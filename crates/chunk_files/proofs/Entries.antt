@@ -1,4 +1,4 @@
--- The files of entries: what they name, and how long they are.
+-- The files of entries: what they name, that each has one text, and how long it is.
 use Rattle.std.proofs.Common.{◌≡◌, ◌≢◌, ◌↔◌, ℕ, zero, suc, ◌<◌, ◌+◌, ◌==◌, not, Bool, true, List, [], ◌∷◌, ◌++◌, length, map, get_or, take, codes, refl, sym, ap, subst, ◌∙◌, ⊎_elim, arith, length-append}
 use Rattle.std.proofs.lemmas.Bool.Decides.{nat_tests}
 use Rattle.std.proofs.lemmas.List.{take_more}
@@ -7,12 +7,13 @@ use Rattle.std.specs.List.{All, Contains, filter}
 use Rattle.pk_types.specs.declared.plan.Plan.{Plan}
 use Rattle.pk_types.specs.ChunkGroups.{AreAll}
 use Rattle.pk_types.proofs.ListMembers.{filtered, unfiltered}
+use Rattle.pk_types.proofs.OneOrder.{same_all}
 use Rattle.chunk_groups.proofs.Gathering.{all_same}
 use Rattle.edge_search.specs.Reached.{IsReached, LeadWithin}
 use Rattle.edge_search.proofs.Growing.{below}
 use Rattle.emit_chunk.specs.Entry.{list_of}
 use Rattle.emit_chunk.specs.Ranges.{AreBelow}
-use Rattle.chunk_files.specs.Entries.{IsWalkedTo, IsNeeded, hash_at, named_text, entry_text, IsEntryText}
+use Rattle.chunk_files.specs.Entries.{IsWalkedTo, IsNeeded, AreNamed, hash_at, named_text, entry_text, IsEntryText}
 use Rattle.chunk_files.specs.Joined.{each_behind, joined}
 use Rattle.chunk_files.specs.Materials.{MaterialOf}
 
@@ -80,6 +81,23 @@ own_first first none one others groups empty begins goes_on = goes_on ∙ ap (λ
 
 pub own_below : (count first : ℕ) (others groups : List ℕ) → groups ≡ first ∷ others → first < count → AreBelow count others → AreBelow count groups
 own_below count first others groups is own below = subst (AreBelow count) (sym is) (All-cons (λ n. n < count) first others own below)
+
+-- ---- one text
+
+same_groups : (plan : Plan) (entry : ℕ) (groups chunks more others : List ℕ) → AreNamed plan entry groups chunks → AreNamed plan entry more others → groups ≡ more
+same_groups plan entry groups chunks more others a b =
+    a.groups_are ∙ ap (λ l. entry ∷ l) (same_all (IsWalkedTo plan entry) a.others b.others a.walked b.walked) ∙ sym b.groups_are
+
+same_chunks : (plan : Plan) (entry : ℕ) (groups chunks more others : List ℕ) → AreNamed plan entry groups chunks → AreNamed plan entry more others → chunks ≡ others
+same_chunks plan entry groups chunks more others a b =
+    same_all (IsNeeded plan more) chunks others (subst (λ l. AreAll (IsNeeded plan l) chunks) (same_groups plan entry groups chunks more others a b) a.needed) b.needed
+
+-- an entry's file has one text
+pub one_text : (material : MaterialOf) (hashes : List (List ℕ)) (entry : ℕ) (text other : List ℕ)
+    → IsEntryText material hashes entry text → IsEntryText material hashes entry other → text ≡ other
+one_text material hashes entry text other a b =
+    a.3 ∙ ap (λ l. entry_text material hashes entry l a.1) (same_groups material.plan entry a.0 a.1 b.0 b.1 a.2 b.2)
+    ∙ ap (entry_text material hashes entry b.0) (same_chunks material.plan entry a.0 a.1 b.0 b.1 a.2 b.2) ∙ sym b.3
 
 -- ---- how long it is
 
