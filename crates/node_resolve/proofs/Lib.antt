@@ -4,5 +4,6 @@ pub mod Looks
 pub mod Packages
 pub mod PathParts
 pub mod Sights
+pub mod Standing
 pub mod Turns
 pub mod Walking
